@@ -1,0 +1,47 @@
+-- Arrays filled from the front: `stores n f l` is l with f 0, f 1, .. f (n - 1) stored one after the other.
+--
+-- In order: the definition; what a loop that fills an array uses (`-zero`, `-more`); its length; what stands at each index.
+-- Assumes nothing.
+use Prim.Native.Nat.{ℕ, zero, suc, _+_, _<_, _≤_}
+use native.Mathlib.Nat.{le-of-suc-le-suc, not-suc-le-zero, eq-or-lt-of-le, lt-irrefl}
+use native.Mathlib.Numerals.{add-one}
+use native.Mathlib.Omega.{arith}
+use mathlib.Core.Logic.{⊎-elim}
+use mathlib.Core.Path.{_≡_, refl, sym, ap, subst, _∙_}
+use mathlib.Core.List.{List, [], _∷_}
+use lib.ListN.{length, set, getD, length-set}
+use lib.Seq.{getD-set-same, getD-set-other, ext-getD}
+
+unfoldable pub stores : {A : Type 0} → ℕ → (ℕ → A) → List A → List A
+stores zero f l = l
+stores (suc n) f l = set (stores n f l) n (f n)
+
+module _ {A : Type 0} (f : ℕ → A) (l : List A) where
+  pub stores-zero : stores 0 f l ≡ l
+  unfolding stores
+  stores-zero = refl
+
+  pub stores-more : (i : ℕ) → stores (i + 1) f l ≡ set (stores i f l) i (f i)
+  unfolding stores
+  stores-more i = rw (add-one i)
+
+  pub length-stores : (n : ℕ) → length (stores n f l) ≡ length l
+  unfolding stores
+  length-stores zero = refl
+  length-stores (suc n) = length-set (stores n f l) n (f n) ∙ length-stores n
+
+  -- what was stored, and what was not
+  pub getD-stores : (n i : ℕ) (d : A) → i < n → i < length l → getD (stores n f l) i d ≡ f i
+  unfolding stores
+  getD-stores zero i d h g = absurd (not-suc-le-zero h)
+  getD-stores (suc n) i d h g =
+      ⊎-elim
+      (λ e. ap (λ (k : ℕ). getD (set (stores n f l) n (f n)) k d) e ∙ getD-set-same (stores n f l) n (f n) d (let w = length-stores n in let z : n < length (stores n f l) = omega arith in z) ∙ ap f (sym e))
+      (λ lt. getD-set-other (stores n f l) n i (f n) d (λ e. lt-irrefl n (subst (λ (k : ℕ). k < n) e lt)) ∙ getD-stores n i d lt g)
+      (eq-or-lt-of-le (le-of-suc-le-suc h))
+
+  -- a list whose every element was stored
+  pub stores-is : (n : ℕ) (xs : List A) (d : A) → length l ≡ n → length xs ≡ n → ((i : ℕ) → i < n → f i ≡ getD xs i d) → stores n f l ≡ xs
+  stores-is n xs d e g h =
+      let w = length-stores n in
+      ext-getD d (stores n f l) xs (w ∙ e ∙ sym g) (λ i lt. let z : i < n = omega arith in getD-stores n i d z (omega arith) ∙ h i z)

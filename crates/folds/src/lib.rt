@@ -1,0 +1,1 @@
+// The folds over indices that every loop of the project uses, and their laws: all of it stands in specs/.

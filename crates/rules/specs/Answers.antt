@@ -1,0 +1,192 @@
+-- Document 01, "Answer numbers": the table of refusals, the order of each call, and the whole outcome of each call.
+--
+-- In order: refusals and their order; outcomes; the four calls, each with its rows of the table and its promise, the
+-- predicate that the contract of the code cites.
+-- Assumes nothing.
+use mathlib.Core.Path.{_≡_}
+use mathlib.Core.Bool.{Bool, true, false, not}
+use mathlib.Core.List.{List, [], _∷_}
+use Prim.Native.Nat.{ℕ, _-_}
+use lib.Dec.{eqb, leb, ltb}
+use lib.ListN.{length}
+use Rattle.folds.specs.Tests.{_and_, _or_, pick}
+use Rattle.rules.specs.declared.Pair.{Pair}
+use Rattle.rules.specs.declared.Kept.{Kept}
+use Rattle.rules.specs.declared.Kept.the-variants.{Absent, There}
+use Rattle.rules.specs.declared.Completion.{Completion}
+use Rattle.rules.specs.declared.Completion.the-variants.{NotYet, With}
+use Rattle.rules.specs.declared.Record.{Record}
+use Rattle.rules.specs.declared.SetUp.{SetUp}
+use Rattle.rules.specs.declared.Sent.{Sent}
+use Rattle.rules.specs.declared.Sent.the-variants.{Nothing}
+use Rattle.rules.specs.declared.Answer.{Answer}
+use Rattle.rules.specs.declared.Outcome.{Outcome}
+use Rattle.rules.specs.Numbers.{exponent, groupKeeps, numbersKeep, isBox}
+use Rattle.rules.specs.Messages.{Message, send, echo, ready, recovery, tagIn, hasMatrix, malformed, foreign, messageIn, matrixIn, written}
+use Rattle.rules.specs.Dealing.{coinsKeep, matrixPasses, polynomialsBelow, fourBelow, pairBelow, polynomialCheck, pointCheck, shareCheck}
+use Rattle.rules.specs.Record.{groupIn, slotAt, heardFor, isThere, isDone, matrixOf, newRecord, zeroRecord, sound}
+use Rattle.rules.specs.Steps.{Step, heard, messageStep, dealStep, recoverStep, quiet}
+
+-- ---- refusals and their order
+
+-- a row of the table: its number, and whether it holds
+pub record Refusal : Type 0 where
+  pub number : ℕ
+  pub holds : Bool
+
+infix 70 _when_
+abbrev pub _when_ : ℕ → Bool → Refusal
+n when b = record { number = n; holds = b }
+
+-- the number of the first row that holds; 0, accepted, where none does
+unfoldable pub firstOf : List Refusal → ℕ
+firstOf [] = 0
+firstOf (x ∷ xs) = pick (x .holds) (x .number) (firstOf xs)
+
+-- ---- outcomes
+
+-- what a call answers and leaves: its outcome, and the lent buffer at exit
+pub record Done : Type 0 where
+  pub outcome : Outcome
+  pub buffer : List ℕ
+
+abbrev pub done : Outcome → List ℕ → Done
+done o buffer = record { outcome = o; buffer = buffer }
+
+abbrev pub noPair : Pair
+noPair = record { first = exponent 0; second = exponent 0 }
+
+-- "which (0, 0 with "no" if it did not)"
+abbrev pub pairTold : Kept → Pair
+pairTold Absent = noPair
+pairTold (There s) = s
+
+-- "0 is accepted, with what was sent, bytes written, whether the box completed just now, and whether this call
+-- recovered a pair, and which"
+unfoldable pub accepted : Step → Outcome
+accepted x =
+    record {
+      answer = record {
+        no = 0;
+        sent = x .sent;
+        bytes = length (x .bytes);
+        completed = x .completed;
+        recovered = isThere (x .recovered);
+        pair = pairTold (x .recovered);
+      };
+      next = x .after;
+    }
+
+-- "A refusal gives its number and otherwise zeros."
+unfoldable pub refused : ℕ → Record → Outcome
+refused n x =
+    record { answer = record { no = n; sent = Nothing; bytes = 0; completed = false; recovered = false; pair = noPair }; next = x }
+
+-- the outcome of a call with this number, step and record after a refusal
+unfoldable pub outcomeOf : ℕ → Step → Record → Outcome
+outcomeOf n x after = pick (eqb n 0) (accepted x) (refused n after)
+
+-- "No refusal writes to the outgoing buffer."
+unfoldable pub answered : ℕ → Step → Record → List ℕ → Done
+answered n x after buffer = done (outcomeOf n x after) (pick (eqb n 0) (written (x .bytes) buffer) buffer)
+
+-- ---- set-up: "Order: set-up 11, 12."
+
+unfoldable pub setUpRows : SetUp → List Refusal
+setUpRows u =
+    11 when not (groupKeeps u)
+    ∷ 12 when not (numbersKeep u)
+    ∷ []
+
+-- "A refused set-up gives the all-zero record"
+unfoldable pub setUp : SetUp → Outcome
+setUp u = outcomeOf (firstOf (setUpRows u)) (quiet (newRecord u)) zeroRecord
+
+abbrev pub SetsUp : SetUp → Outcome → Type 0
+SetsUp u o = o ≡ setUp u
+
+-- ---- commands: "Commands 15, 12, 13, 14."
+
+-- 15 "outgoing buffer under 2,048 bytes"; 12 "the record is not sound"
+abbrev pub tooShort : List ℕ → Bool
+tooShort buffer = ltb (length buffer) 2048
+
+-- 13 "deal by another box than d or a second time"; 14 "secret ≥ q, coins not 2k² - 1 in number, or a coin ≥ q"
+unfoldable pub dealRows : Record → ℕ → List ℕ → List ℕ → List Refusal
+dealRows x secret coins buffer =
+    15 when tooShort buffer
+    ∷ 12 when not (sound x)
+    ∷ 13 when not (eqb (x .setup .i) (x .setup .d)) or x .progress .dealt
+    ∷ 14 when not (coinsKeep (groupIn x .q) (x .setup .k) secret coins)
+    ∷ []
+
+unfoldable pub deal : Record → ℕ → List ℕ → List ℕ → Done
+deal x secret coins buffer = answered (firstOf (dealRows x secret coins buffer)) (dealStep x secret coins) x buffer
+
+abbrev pub Deals : Record → ℕ → List ℕ → List ℕ → Outcome → List ℕ → Type 0
+Deals x secret coins buffer o buffer′ = done o buffer′ ≡ deal x secret coins buffer
+
+-- 13 "recovery command before completion or a second time"
+unfoldable pub recoverRows : Record → List ℕ → List Refusal
+recoverRows x buffer =
+    15 when tooShort buffer
+    ∷ 12 when not (sound x)
+    ∷ 13 when not (isDone (x .progress .completion)) or x .progress .commanded
+    ∷ []
+
+unfoldable pub recover : Record → List ℕ → Done
+recover x buffer = answered (firstOf (recoverRows x buffer)) (recoverStep x) x buffer
+
+abbrev pub Recovers : Record → List ℕ → Outcome → List ℕ → Type 0
+Recovers x buffer o buffer′ = done o buffer′ ≡ recover x buffer
+
+-- ---- delivery: "Delivery 15, 12, then 1 to 10 by number."
+
+-- 9 "an exponent ≥ q"
+abbrev pub exponentsKeep : ℕ → ℕ → Message → Bool
+exponentsKeep q k (send C P) = polynomialsBelow q k P
+exponentsKeep q k (echo C f) = fourBelow q f
+exponentsKeep q k (ready C f) = fourBelow q f
+exponentsKeep q k (recovery s) = pairBelow q s
+
+-- 10 "the check of its kind fails": a recovery share is checked against the completed matrix
+abbrev pub shareChecks : Record → Completion → ℕ → Pair → Bool
+shareChecks x NotYet m s = false
+shareChecks x (With c) m s = shareCheck (groupIn x) (x .setup .k) (matrixOf (slotAt x c)) m s
+
+abbrev pub checks : Record → ℕ → Message → Bool
+checks x m (send C P) = polynomialCheck (groupIn x) (x .setup .k) C (x .setup .i) P
+checks x m (echo C f) = pointCheck (groupIn x) (x .setup .k) C (x .setup .i) m f
+checks x m (ready C f) = pointCheck (groupIn x) (x .setup .k) C (x .setup .i) m f
+checks x m (recovery s) = shareChecks x (x .progress .completion) m s
+
+unfoldable pub deliverRows : Record → ℕ → List ℕ → List ℕ → List Refusal
+deliverRows x sender bytes buffer =
+    15 when tooShort buffer
+    ∷ 12 when not (sound x)
+    ∷ 1 when not (isBox (x .setup) sender)
+    ∷ 2 when malformed (x .setup .k) bytes
+    ∷ 3 when foreign (x .setup) bytes
+    ∷ 4 when eqb (tagIn bytes) 1 and not (eqb sender (x .setup .d))
+    ∷ 5 when eqb (tagIn bytes) 4 and not (isDone (x .progress .completion) and x .progress .commanded)
+    ∷ 6 when eqb (tagIn bytes) 4 and isThere (x .recovered .kept)
+    ∷ 7 when heardFor x (tagIn bytes) (sender - 1)
+    ∷ 8 when hasMatrix (tagIn bytes) and not (matrixPasses (groupIn x) (x .setup .k) (matrixIn (x .setup .k) bytes))
+    ∷ 9 when not (exponentsKeep (groupIn x .q) (x .setup .k) (messageIn (x .setup .k) bytes))
+    ∷ 10 when not (checks x sender (messageIn (x .setup .k) bytes))
+    ∷ []
+
+-- "All refusals leave the record as it came, except that 8, 9 and 10 on tags 1, 2, 3 mark that sender heard for that tag"
+unfoldable pub refusalHeard : ℕ → Record → ℕ → List ℕ → Record
+refusalHeard n x sender bytes =
+    pick ((eqb n 8 or eqb n 9 or eqb n 10) and hasMatrix (tagIn bytes)) (heard x (tagIn bytes) (sender - 1)) x
+
+unfoldable pub deliver : Record → ℕ → List ℕ → List ℕ → Done
+deliver x sender bytes buffer =
+    answered (firstOf (deliverRows x sender bytes buffer))
+    (messageStep x (sender - 1) (messageIn (x .setup .k) bytes))
+    (refusalHeard (firstOf (deliverRows x sender bytes buffer)) x sender bytes)
+    buffer
+
+abbrev pub Delivers : Record → ℕ → List ℕ → List ℕ → Outcome → List ℕ → Type 0
+Delivers x sender bytes buffer o buffer′ = done o buffer′ ≡ deliver x sender bytes buffer

@@ -1,0 +1,300 @@
+-- Demand 1: every call gets a numbered answer; a refused call writes nothing, and changes the record only by the "heard" mark.
+--
+-- In order: the first row of a table that holds; (a) and (c), which number each call gives; (b), what a refusal leaves;
+-- and that two outcomes which a call's promise allows are equal.
+-- Assumes nothing.
+use mathlib.Core.Path.{_≡_, refl, sym, ap, _∙_, subst}
+use mathlib.Core.Bool.{Bool, true, false, not}
+use mathlib.Core.List.{List, [], _∷_, map}
+use mathlib.Core.Logic.{_↔_, _≢_, _⊎_, inl, inr, ⊎-elim}
+use Prim.Native.Nat.{ℕ, _-_, _≤_, _<_}
+use native.Mathlib.Omega.{arith}
+use lib.Dec.{eqb, leb}
+use native.Mathlib.Decide.{ℕ-discrete}
+use lib.ListN.{length, getD, set}
+use lib.Seq.{getD-set-same, getD-set-other}
+use borrow.Author.Tests.{eqb-true, eqb-false, ne-eqb, le-leb, leb-true, not-true}
+use Rattle.folds.specs.Tests.{_and_, _or_, pick, pick-true, pick-false, true≢false, and-left, and-right, or-cases, decide}
+use Rattle.rules.specs.declared.Marks.{Marks}
+use Rattle.rules.specs.declared.Record.{Record}
+use Rattle.rules.specs.declared.SetUp.{SetUp}
+use Rattle.rules.specs.declared.Sent.{Sent}
+use Rattle.rules.specs.declared.Sent.the-variants.{Nothing}
+use Rattle.rules.specs.declared.Outcome.{Outcome}
+use Rattle.rules.specs.Messages.{tagIn, hasMatrix}
+use Rattle.rules.specs.Record.{noMarks, marked, heardFor, zeroRecord}
+use Rattle.rules.specs.Steps.{Step, mark, heard}
+use Rattle.rules.specs.Laws.Shape.{Shaped}
+use Rattle.rules.specs.Answers.{Refusal, _when_, firstOf, Done, done, noPair, accepted, refused, outcomeOf, answered, setUpRows, setUp, SetsUp, dealRows, deal, Deals, recoverRows, recover, Recovers, deliverRows, refusalHeard, deliver, Delivers}
+
+-- ---- the first row of a table that holds
+
+-- row x of a table holds
+unfoldable pub row : List Refusal → ℕ → Bool
+row [] x = false
+row (y ∷ ys) x = pick (eqb (y .number) x) (y .holds) (row ys x)
+
+-- no row that comes before row x holds
+unfoldable pub noneBefore : List Refusal → ℕ → Bool
+noneBefore [] x = true
+noneBefore (y ∷ ys) x = pick (eqb (y .number) x) true (not (y .holds) and noneBefore ys x)
+
+-- no row holds
+unfoldable pub none : List Refusal → Bool
+none [] = true
+none (y ∷ ys) = not (y .holds) and none ys
+
+-- a number does not occur, and the numbers of a table are different and not 0
+unfoldable lacks : ℕ → List ℕ → Bool
+lacks x [] = true
+lacks x (y ∷ ys) = not (eqb y x) and lacks x ys
+
+unfoldable distinct : List ℕ → Bool
+distinct [] = true
+distinct (y ∷ ys) = lacks y ys and distinct ys
+
+abbrev numbers : List Refusal → List ℕ
+numbers = map (λ y. y .number)
+
+-- a number other than 0 that does not occur is not given
+first-lacks : (xs : List Refusal) (x : ℕ) → x ≢ 0 → lacks x (numbers xs) ≡ true → firstOf xs ≡ x → ⊥
+unfolding firstOf lacks
+first-lacks [] x z h e = z (sym e)
+first-lacks (y ∷ ys) x z h e = go (y .holds) (first-lacks ys x z (and-right (not (eqb (y .number) x)) (lacks x (numbers ys)) h)) e
+  where
+    go : (b : Bool) → (firstOf ys ≡ x → ⊥) → pick b (y .number) (firstOf ys) ≡ x → ⊥
+    go true f e = eqb-false (y .number) x (not-true _ (and-left (not (eqb (y .number) x)) (lacks x (numbers ys)) h)) e
+    go false f e = f e
+
+-- its number is given exactly when a row holds and no row before it does
+first-row : (xs : List Refusal) → distinct (numbers xs) ≡ true → (x : ℕ) → x ≢ 0 → (firstOf xs ≡ x) ↔ ((row xs x ≡ true) × (noneBefore xs x ≡ true))
+unfolding firstOf row noneBefore distinct
+first-row [] d x z = ((λ e. absurd (z (sym e))), λ h. absurd (true≢false (sym (h .0))))
+first-row (y ∷ ys) d x z = go (y .holds) (eqb (y .number) x) refl (first-row ys (and-right (lacks (y .number) (numbers ys)) (distinct (numbers ys)) d) x z)
+  where
+    absent : y .number ≡ x → firstOf ys ≡ x → ⊥
+    absent q = first-lacks ys x z (subst (λ n. lacks n (numbers ys) ≡ true) q (and-left (lacks (y .number) (numbers ys)) (distinct (numbers ys)) d))
+
+    go : (b c : Bool) → eqb (y .number) x ≡ c → (firstOf ys ≡ x) ↔ ((row ys x ≡ true) × (noneBefore ys x ≡ true))
+        → (pick b (y .number) (firstOf ys) ≡ x) ↔ ((pick c b (row ys x) ≡ true) × (pick c true (not b and noneBefore ys x) ≡ true))
+    go true true q ih = ((λ e. (refl, refl)), λ h. eqb-true (y .number) x q)
+    go true false q ih = ((λ e. absurd (eqb-false (y .number) x q e)), λ h. absurd (true≢false (sym (h .1))))
+    go false true q ih = ((λ e. absurd (absent (eqb-true (y .number) x q) e)), λ h. absurd (true≢false (sym (h .0))))
+    go false false q ih = ih
+
+-- 0 is given exactly when no row holds
+first-none : (xs : List Refusal) → lacks 0 (numbers xs) ≡ true → (firstOf xs ≡ 0) ↔ (none xs ≡ true)
+unfolding firstOf none lacks
+first-none [] d = ((λ e. refl), λ h. refl)
+first-none (y ∷ ys) d = go (y .holds) (first-none ys (and-right (not (eqb (y .number) 0)) (lacks 0 (numbers ys)) d))
+  where
+    go : (b : Bool) → (firstOf ys ≡ 0) ↔ (none ys ≡ true) → (pick b (y .number) (firstOf ys) ≡ 0) ↔ (not b and none ys ≡ true)
+    go true ih =
+        ((λ e. absurd (eqb-false (y .number) 0 (not-true _ (and-left (not (eqb (y .number) 0)) (lacks 0 (numbers ys)) d)) e)), λ h. absurd (true≢false (sym h)))
+    go false ih = ih
+
+-- ---- (a) and (c): which number a call gives
+
+-- the number n of an answer goes by the rows of a table, which stand in this order
+pub record ByTable (order : List ℕ) (rows : List Refusal) (n : ℕ) : Type 0 where
+  pub in-order : numbers rows ≡ order
+  -- (a) number x is given exactly when row x holds and no row that comes before it
+  pub given : (x : ℕ) → x ≢ 0 → (n ≡ x) ↔ ((row rows x ≡ true) × (noneBefore rows x ≡ true))
+  -- (c) 0 is given exactly when no row holds
+  pub zero : (n ≡ 0) ↔ (none rows ≡ true)
+
+by-table : (order : List ℕ) (rows : List Refusal) (n : ℕ) → numbers rows ≡ order → distinct order ≡ true → lacks 0 order ≡ true → n ≡ firstOf rows → ByTable order rows n
+by-table order rows n o d l e =
+    record {
+      in-order = o;
+      given = λ x z. subst (λ m. (m ≡ x) ↔ ((row rows x ≡ true) × (noneBefore rows x ≡ true))) (sym e) (first-row rows (ap distinct o ∙ d) x z);
+      zero = subst (λ m. (m ≡ 0) ↔ (none rows ≡ true)) (sym e) (first-none rows (ap (lacks 0) o ∙ l));
+    }
+
+-- the answer's number is that of the first row that holds
+outcome-number : (n : ℕ) (x : Step) (after : Record) → outcomeOf n x after .answer .no ≡ n
+unfolding outcomeOf accepted refused
+outcome-number n x after = go (eqb n 0) refl
+  where
+    go : (b : Bool) → eqb n 0 ≡ b → pick b (accepted x) (refused n after) .answer .no ≡ n
+    go true e = sym (eqb-true n 0 e)
+    go false e = refl
+
+-- "Order: set-up 11, 12."
+pub set-up-number : (u : SetUp) → ByTable (11 ∷ 12 ∷ []) (setUpRows u) (setUp u .answer .no)
+unfolding setUp setUpRows distinct lacks
+set-up-number u = by-table _ _ _ refl refl refl (outcome-number _ _ _)
+
+-- "Commands 15, 12, 13, 14."
+pub deal-number : (x : Record) (secret : ℕ) (coins buffer : List ℕ)
+    → ByTable (15 ∷ 12 ∷ 13 ∷ 14 ∷ []) (dealRows x secret coins buffer) (deal x secret coins buffer .outcome .answer .no)
+unfolding deal dealRows answered distinct lacks
+deal-number x secret coins buffer = by-table _ _ _ refl refl refl (outcome-number _ _ _)
+
+pub recover-number : (x : Record) (buffer : List ℕ) → ByTable (15 ∷ 12 ∷ 13 ∷ []) (recoverRows x buffer) (recover x buffer .outcome .answer .no)
+unfolding recover recoverRows answered distinct lacks
+recover-number x buffer = by-table _ _ _ refl refl refl (outcome-number _ _ _)
+
+-- "Delivery 15, 12, then 1 to 10 by number."
+pub deliver-number : (x : Record) (sender : ℕ) (bytes buffer : List ℕ)
+    → ByTable (15 ∷ 12 ∷ 1 ∷ 2 ∷ 3 ∷ 4 ∷ 5 ∷ 6 ∷ 7 ∷ 8 ∷ 9 ∷ 10 ∷ []) (deliverRows x sender bytes buffer) (deliver x sender bytes buffer .outcome .answer .no)
+unfolding deliver deliverRows answered distinct lacks
+deliver-number x sender bytes buffer = by-table _ _ _ refl refl refl (outcome-number _ _ _)
+
+-- ---- (b): what a refusal leaves
+
+-- the answer is zero but for its number
+pub record Zeros (o : Outcome) : Type 0 where
+  pub sent : o .answer .sent ≡ Nothing
+  pub bytes : o .answer .bytes ≡ 0
+  pub completed : o .answer .completed ≡ false
+  pub recovered : o .answer .recovered ≡ false
+  pub pair : o .answer .pair ≡ noPair
+
+-- and the buffer is as it came, and the record is this one
+pub record Refused (after : Record) (buffer : List ℕ) (d : Done) : Type 0 where
+  pub left : d .buffer ≡ buffer
+  pub zeros : Zeros (d .outcome)
+  pub next : d .outcome .next ≡ after
+
+refusing : (n : ℕ) (x : Step) (after : Record) → n ≢ 0 → (Zeros (outcomeOf n x after)) × (outcomeOf n x after .next ≡ after)
+unfolding outcomeOf refused
+refusing n x after z =
+    rw (ne-eqb n 0 z) (record { sent = refl; bytes = refl; completed = refl; recovered = refl; pair = refl }, refl)
+
+answering : (n : ℕ) (x : Step) (after : Record) (buffer : List ℕ) → n ≢ 0 → Refused after buffer (answered n x after buffer)
+unfolding answered
+answering n x after buffer z =
+    record { left = rw (ne-eqb n 0 z); zeros = refusing n x after z .0; next = refusing n x after z .1 }
+
+-- the number that a call answers is its table's
+renumber : (n : ℕ) (x : Step) (after : Record) → outcomeOf n x after .answer .no ≢ 0 → n ≢ 0
+renumber n x after z e = z (outcome-number n x after ∙ e)
+
+-- "A refused set-up gives the all-zero record"
+pub set-up-refused : (u : SetUp) → setUp u .answer .no ≢ 0 → (Zeros (setUp u)) × (setUp u .next ≡ zeroRecord)
+unfolding setUp
+set-up-refused u z = refusing _ _ _ (renumber _ _ _ z)
+
+-- a refused command leaves the record as it came
+pub deal-refused : (x : Record) (secret : ℕ) (coins buffer : List ℕ) → deal x secret coins buffer .outcome .answer .no ≢ 0
+    → Refused x buffer (deal x secret coins buffer)
+unfolding deal answered
+deal-refused x secret coins buffer z = answering _ _ _ _ (renumber _ _ _ z)
+
+pub recover-refused : (x : Record) (buffer : List ℕ) → recover x buffer .outcome .answer .no ≢ 0 → Refused x buffer (recover x buffer)
+unfolding recover answered
+recover-refused x buffer z = answering _ _ _ _ (renumber _ _ _ z)
+
+-- "8, 9 and 10 on tags 1, 2, 3 mark that sender heard for that tag"
+abbrev pub Heard : ℕ → ℕ → Type 0
+Heard n tag = ((n ≡ 8) ⊎ ((n ≡ 9) ⊎ (n ≡ 10))) × (tag ≤ 3)
+
+abbrev toHear : ℕ → ℕ → Bool
+toHear n tag = (eqb n 8 or eqb n 9 or eqb n 10) and hasMatrix tag
+
+heard-test : (n tag : ℕ) → Heard n tag → toHear n tag ≡ true
+unfolding hasMatrix
+heard-test n tag h = go (h .0) (le-leb tag 3 (h .1))
+  where
+    go : (n ≡ 8) ⊎ ((n ≡ 9) ⊎ (n ≡ 10)) → leb tag 3 ≡ true → toHear n tag ≡ true
+    go (inl e) l = rw (e, l)
+    go (inr (inl e)) l = rw (e, l)
+    go (inr (inr e)) l = rw (e, l)
+
+test-heard : (n tag : ℕ) → toHear n tag ≡ true → Heard n tag
+unfolding hasMatrix
+test-heard n tag t = (
+  ⊎-elim (λ e. inl (eqb-true n 8 e)) (λ t′. inr (⊎-elim (λ e. inl (eqb-true n 9 e)) (λ e. inr (eqb-true n 10 e)) (or-cases (eqb n 9) (eqb n 10) t′)))
+      (or-cases (eqb n 8) (eqb n 9 or eqb n 10) (and-left _ (leb tag 3) t)),
+  leb-true tag 3 (and-right (eqb n 8 or eqb n 9 or eqb n 10) (leb tag 3) t),
+)
+
+-- the refusal n of a delivery, where the record after it is this one
+deliver-leaves : (n : ℕ) (step : Step) (x after : Record) (sender : ℕ) (bytes buffer : List ℕ) → n ≢ 0 → refusalHeard n x sender bytes ≡ after
+    → Refused after buffer (answered n step (refusalHeard n x sender bytes) buffer)
+deliver-leaves n step x after sender bytes buffer z e = rw e (answering n step after buffer z)
+
+-- a refused delivery leaves the record as it came,
+pub deliver-refused : (x : Record) (sender : ℕ) (bytes buffer : List ℕ) → deliver x sender bytes buffer .outcome .answer .no ≢ 0
+    → (Heard (deliver x sender bytes buffer .outcome .answer .no) (tagIn bytes) → ⊥)
+    → Refused x buffer (deliver x sender bytes buffer)
+unfolding deliver answered refusalHeard
+deliver-refused x sender bytes buffer z h =
+    let n = firstOf (deliverRows x sender bytes buffer) in
+    let no≡ = outcome-number n _ _ in
+    deliver-leaves n _ x x sender bytes buffer (renumber _ _ _ z)
+    (⊎-elim (λ t. absurd (h (subst (λ m. Heard m (tagIn bytes)) (sym no≡) (test-heard n (tagIn bytes) t)))) (λ f. pick-false _ _ _ f) (decide (toHear n (tagIn bytes))))
+
+-- or marks its sender heard for its tag
+pub deliver-heard : (x : Record) (sender : ℕ) (bytes buffer : List ℕ) → Heard (deliver x sender bytes buffer .outcome .answer .no) (tagIn bytes)
+    → Refused (heard x (tagIn bytes) (sender - 1)) buffer (deliver x sender bytes buffer)
+unfolding deliver answered refusalHeard
+deliver-heard x sender bytes buffer h =
+    let n = firstOf (deliverRows x sender bytes buffer) in
+    let h′ : Heard n (tagIn bytes) = subst (λ m. Heard m (tagIn bytes)) (outcome-number n _ _) h in
+    deliver-leaves n _ x _ sender bytes buffer (λ e. nonzero (h′ .0) e) (pick-true _ _ _ (heard-test n (tagIn bytes) h′))
+  where
+    nonzero : {n : ℕ} → (n ≡ 8) ⊎ ((n ≡ 9) ⊎ (n ≡ 10)) → n ≡ 0 → ⊥
+    nonzero (inl e) z = omega arith
+    nonzero (inr (inl e)) z = omega arith
+    nonzero (inr (inr e)) z = omega arith
+
+-- a record is as it came but for one sender's mark for one tag
+pub record OneMark (x y : Record) (tag m : ℕ) : Type 0 where
+  pub setup : y .setup ≡ x .setup
+  pub slots : y .slots ≡ x .slots
+  pub progress : y .progress ≡ x .progress
+  pub shares : y .shares ≡ x .shares
+  pub recovered : y .recovered ≡ x .recovered
+  pub there : heardFor y tag m ≡ true
+  pub elsewhere : (tag′ m′ : ℕ) → 1 ≤ tag′ → (tag′ ≡ tag → m′ ≡ m → ⊥) → heardFor y tag′ m′ ≡ heardFor x tag′ m′
+
+-- what `heard` changes is one mark
+pub one-mark : (x : Record) (tag m : ℕ) → Shaped x → 1 ≤ tag → tag ≤ 4 → m < 10 → OneMark x (heard x tag m) tag m
+unfolding heard
+one-mark x tag m S l h b =
+    record {
+      setup = refl;
+      slots = refl;
+      progress = refl;
+      shares = refl;
+      recovered = refl;
+      there = rw (getD-set-same (x .heard) (tag - 1) (mark row m) noMarks in-heard) (getD-set-same (row .at) m true false in-row);
+      elsewhere = λ tag′ m′ l′ ne. other tag′ m′ ne (ℕ-discrete (tag′ - 1) (tag - 1)) (λ e. omega arith);
+    }
+  where
+    row : Marks
+    row = getD (x .heard) (tag - 1) noMarks
+
+    in-heard : tag - 1 < length (x .heard)
+    in-heard = rw (S .heard) (omega arith)
+
+    in-row : m < length (row .at)
+    in-row = rw (S .marks (tag - 1) (omega arith)) b
+
+    other : (tag′ m′ : ℕ) → (tag′ ≡ tag → m′ ≡ m → ⊥) → Dec (tag′ - 1 ≡ tag - 1) → (tag′ - 1 ≡ tag - 1 → tag′ ≡ tag)
+        → marked (getD (set (x .heard) (tag - 1) (mark row m)) (tag′ - 1) noMarks) m′ ≡ heardFor x tag′ m′
+    other tag′ m′ ne (yes e) up =
+        rw (e, getD-set-same (x .heard) (tag - 1) (mark row m) noMarks in-heard) (getD-set-other (row .at) m m′ true false (ne (up e)))
+    other tag′ m′ ne (no e) up = rw (getD-set-other (x .heard) (tag - 1) (tag′ - 1) (mark row m) noMarks e)
+
+-- ---- two outcomes that a call's promise allows are equal
+
+both-equal : (o o′ : Outcome) (b b′ : List ℕ) (d : Done) → done o b ≡ d → done o′ b′ ≡ d → (o ≡ o′) × (b ≡ b′)
+both-equal o o′ b b′ d p q = (ap (λ (d : Done). d .outcome) (p ∙ sym q), ap (λ (d : Done). d .buffer) (p ∙ sym q))
+
+pub set-up-unique : (u : SetUp) (o o′ : Outcome) → SetsUp u o → SetsUp u o′ → o ≡ o′
+set-up-unique u o o′ p q = p ∙ sym q
+
+pub deal-unique : (x : Record) (secret : ℕ) (coins buffer : List ℕ) (o o′ : Outcome) (b b′ : List ℕ)
+    → Deals x secret coins buffer o b → Deals x secret coins buffer o′ b′ → (o ≡ o′) × (b ≡ b′)
+deal-unique x secret coins buffer o o′ b b′ = both-equal o o′ b b′ _
+
+pub recover-unique : (x : Record) (buffer : List ℕ) (o o′ : Outcome) (b b′ : List ℕ)
+    → Recovers x buffer o b → Recovers x buffer o′ b′ → (o ≡ o′) × (b ≡ b′)
+recover-unique x buffer o o′ b b′ = both-equal o o′ b b′ _
+
+pub deliver-unique : (x : Record) (sender : ℕ) (bytes buffer : List ℕ) (o o′ : Outcome) (b b′ : List ℕ)
+    → Delivers x sender bytes buffer o b → Delivers x sender bytes buffer o′ b′ → (o ≡ o′) × (b ≡ b′)
+deliver-unique x sender bytes buffer o o′ b b′ = both-equal o o′ b b′ _
