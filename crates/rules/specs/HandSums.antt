@@ -7,11 +7,6 @@ use mathlib.Core.Bool.{Bool, true, false}
 use mathlib.Core.List.{List, [], _∷_}
 use Prim.Native.Nat.{ℕ, _+_, _*_}
 use lib.ListN.{getD}
-use Rattle.folds.specs.Below.{allBelow, sumBelow, prodBelow, countBelow, firstFrom, anyBelow}
-use Rattle.folds.specs.Stores.{stores}
-use Rattle.folds.specs.Runs.{gather}
-use Rattle.algebra.specs.Residues.{inverse, inverseBy}
-use Rattle.algebra.specs.Interpolation.{interpolate, others}
 use Rattle.rules.specs.declared.Element.{Element}
 use Rattle.rules.specs.declared.Exponent.{Exponent}
 use Rattle.rules.specs.declared.Four.{Four}
@@ -21,44 +16,45 @@ use Rattle.rules.specs.declared.Polynomials.{Polynomials}
 use Rattle.rules.specs.declared.Record.{Record}
 use Rattle.rules.specs.declared.SetUp.{SetUp}
 use Rattle.rules.specs.declared.Slot.{Slot}
-use Rattle.rules.specs.Numbers.{exponent, element, groups, groupOf, groupKeeps, sizesKeep, isBox, numbersKeep, echoQuorum}
-use Rattle.rules.specs.Matrices.{row, matrix, entry, α}
-use Rattle.rules.specs.Messages.{send, bytesOf, framed, tagOf, bodyOf, twoBytes, matrixBytes, coefficientBytes, polynomialBytes}
-use Rattle.rules.specs.Dealing.{fOf, f′Of, committed, commitment, alongX, alongY, polynomialsOf, valueAt, openedAt, pointCheck, shareCheck}
+use Rattle.rules.specs.Numbers.{exponent, element, groupOf, echoQuorum}
+use Rattle.rules.specs.Matrices.{matrix, entry, α}
+use Rattle.rules.specs.Messages.{send, bytesOf}
+use Rattle.rules.specs.Dealing.{fOf, f′Of, committed, commitment, polynomialsOf, valueAt, pointCheck, shareCheck}
 use Rattle.rules.specs.Record.{nothing, newRecord, zeroSlot}
-use Rattle.rules.specs.Steps.{withShares, points, sharePoints, through, pairFrom, recoveredFrom, lowest, opened, echoed, sharing}
-use Rattle.rules.specs.Answers.{setUp, setUpRows, firstOf, outcomeOf, accepted, refused}
+use Rattle.rules.specs.Steps.{withShares, sharePoints, through, pairFrom, recoveredFrom, lowest, opened, echoed, sharing}
+use Rattle.rules.specs.Answers.{setUp}
+use Rattle.rules.specs.Computed.{computed}
 
 -- the set-up numbers of a class of these sizes: box 1, dealt by box 1, session 7
-abbrev sized : ℕ → ℕ → ℕ → SetUp
+abbrev pub sized : ℕ → ℕ → ℕ → SetUp
 sized n t k = record { group = 1; n = n; t = t; k = k; i = 1; d = 1; session = 7 }
 
-abbrev class : SetUp
+abbrev pub class : SetUp
 class = sized 4 1 2
 
 abbrev G : Group
 G = groupOf 1
 
-abbrev four : ℕ → ℕ → ℕ → ℕ → Four
+abbrev pub four : ℕ → ℕ → ℕ → ℕ → Four
 four x x′ y y′ = record { alpha = exponent x; alpha2 = exponent x′; beta = exponent y; beta2 = exponent y′ }
 
-abbrev pair : ℕ → ℕ → Pair
+abbrev pub pair : ℕ → ℕ → Pair
 pair s s′ = record { first = exponent s; second = exponent s′ }
 
 -- the deal: the secret 5, and the coins (in P9 the secret 6, and the coins that match)
-abbrev coins : List ℕ
+abbrev pub coins : List ℕ
 coins = 3 ∷ 2 ∷ 4 ∷ 1 ∷ 6 ∷ 7 ∷ 9 ∷ []
 
 abbrev matching : List ℕ
 matching = 2 ∷ 1 ∷ 5 ∷ 5 ∷ 2 ∷ 3 ∷ 2 ∷ []
 
-abbrev C : ℕ → List ℕ → List (List Element)
+abbrev pub C : ℕ → List ℕ → List (List Element)
 C secret coins = commitment G 2 (fOf 2 secret coins) (f′Of 2 secret coins)
 
-abbrev dealt : ℕ → List ℕ → ℕ → Polynomials
+abbrev pub dealt : ℕ → List ℕ → ℕ → Polynomials
 dealt secret coins i = polynomialsOf 11 2 (fOf 2 secret coins) (f′Of 2 secret coins) i
 
-abbrev share : ℕ → Pair
+abbrev pub share : ℕ → Pair
 share i = pair (valueAt 11 2 (dealt 5 coins i .a) 0) (valueAt 11 2 (dealt 5 coins i .a2) 0)
 
 -- the slot of box 1 once it holds the points of boxes 2 and 3
@@ -96,7 +92,7 @@ pub record HandSums : Type 0 where
   pub get-12 : (setUp (sized 4 1 3) .answer .no ≡ 12) × (setUp (sized 4 0 2) .answer .no ≡ 12) × (setUp (sized 11 1 2) .answer .no ≡ 12)
 
 pub hand-sums : HandSums
-unfolding groups groupOf fOf f′Of matrix row stores commitment committed polynomialsOf alongX alongY sumBelow prodBelow valueAt shareCheck pointCheck openedAt pairFrom through interpolate others inverse inverseBy points gather opened echoed zeroSlot newRecord recoveredFrom sharePoints bytesOf framed tagOf bodyOf twoBytes matrixBytes polynomialBytes coefficientBytes echoQuorum setUp setUpRows firstOf groupKeeps numbersKeep sizesKeep isBox outcomeOf accepted refused
+unfolding computed
 hand-sums =
     record {
       P1 = refl;

@@ -112,7 +112,7 @@ by-table order rows n o d l e =
     }
 
 -- the answer's number is that of the first row that holds
-outcome-number : (n : ℕ) (x : Step) (after : Record) → outcomeOf n x after .answer .no ≡ n
+pub outcome-number : (n : ℕ) (x : Step) (after : Record) → outcomeOf n x after .answer .no ≡ n
 unfolding outcomeOf accepted refused
 outcome-number n x after = go (eqb n 0) refl
   where

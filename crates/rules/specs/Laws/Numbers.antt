@@ -1,0 +1,146 @@
+-- What the rules of document 01's "Numbers" come to, once their tests pass.
+--
+-- In order: the sizes n, t, k; a whole set-up; the echo quorum; the rows of the table of groups.
+-- Assumes nothing.
+use mathlib.Core.Path.{_≡_, refl}
+use mathlib.Core.Bool.{true}
+use mathlib.Core.Logic.{⊎-elim}
+use Prim.Native.Nat.{ℕ, _+_, _*_, _-_, _%_, _^_, _≤_, _<_}
+use native.Mathlib.Omega.{arith}
+use lib.Dec.{eqb, leb, ltb}
+use lib.ListN.{getD}
+use borrow.Author.Tests.{leb-true, ltb-true, eqb-true}
+use Rattle.folds.specs.Tests.{and-left, and-right, or-cases}
+use Rattle.folds.specs.Below.{allBelow, allBelow-at, firstFrom}
+use Rattle.algebra.specs.Residues.{primeb, Prime, prime}
+use Rattle.rules.specs.declared.Element.{Element}
+use Rattle.rules.specs.declared.Group.{Group}
+use Rattle.rules.specs.declared.SetUp.{SetUp}
+use Rattle.rules.specs.Numbers.{noGroup, groups, groupOf, hasOrder, logarithm, rowKeeps, groupKeeps, sizesKeep, isBox, numbersKeep, echoQuorum}
+
+-- ---- the sizes
+
+pub record Sizes (n t k : ℕ) : Type 0 where
+  pub boxes : n ≤ 10
+  pub faults : 1 ≤ t
+  pub above : t < k
+  pub rest : 2 * t + k ≤ n
+  pub low : 2 ≤ k
+  pub high : k ≤ 8
+
+-- "n ≤ 10. Rules: t ≥ 1, k > t, n - 2t ≥ k. So k is 2..8".
+pub sizes : (n t k : ℕ) → sizesKeep n t k ≡ true → Sizes n t k
+unfolding sizesKeep
+sizes n t k h =
+    let h1 = and-right (leb n 10) _ h in
+    let h2 = and-right (leb 1 t) _ h1 in
+    let a = leb-true n 10 (and-left (leb n 10) _ h) in
+    let b = leb-true 1 t (and-left (leb 1 t) _ h1) in
+    let c = ltb-true t k (and-left (ltb t k) _ h2) in
+    let d = leb-true k (n - 2 * t) (and-right (ltb t k) _ h2) in
+    record { boxes = a; faults = b; above = c; rest = omega arith; low = omega arith; high = omega arith }
+
+-- ---- a whole set-up
+
+pub record Bounds (u : SetUp) : Type 0 where
+  pub sizes : Sizes (u .n) (u .t) (u .k)
+  pub own : (1 ≤ u .i) × (u .i ≤ u .n)
+  pub dealer : (1 ≤ u .d) × (u .d ≤ u .n)
+  pub session : u .session ≤ 65535
+
+is-box : (u : SetUp) (m : ℕ) → isBox u m ≡ true → (1 ≤ m) × (m ≤ u .n)
+unfolding isBox
+is-box u m h = (leb-true 1 m (and-left (leb 1 m) _ h), leb-true m (u .n) (and-right (leb 1 m) _ h))
+
+-- A set-up whose numbers pass is within the bounds of each.
+pub bounds : (u : SetUp) → numbersKeep u ≡ true → Bounds u
+unfolding numbersKeep
+bounds u h =
+    let h1 = and-right (sizesKeep (u .n) (u .t) (u .k)) _ h in
+    let h2 = and-right (isBox u (u .i)) _ h1 in
+    record {
+      sizes = sizes (u .n) (u .t) (u .k) (and-left (sizesKeep (u .n) (u .t) (u .k)) _ h);
+      own = is-box u (u .i) (and-left (isBox u (u .i)) _ h1);
+      dealer = is-box u (u .d) (and-left (isBox u (u .d)) _ h2);
+      session = leb-true (u .session) 65535 (and-right (isBox u (u .d)) _ h2);
+    }
+
+-- ---- the echo quorum
+
+pub record Quorum (u : SetUp) : Type 0 where
+  pub threshold : u .k ≤ echoQuorum u
+  pub majority : u .n + u .t + 1 ≤ 2 * echoQuorum u
+  pub least : (m : ℕ) → u .k ≤ m → u .n + u .t + 1 ≤ 2 * m → echoQuorum u ≤ m
+
+-- The echo quorum is the least number that is at least k and, doubled, at least n + t + 1: "rounded up", not down.
+pub quorum : (u : SetUp) → Quorum u
+unfolding echoQuorum
+quorum u = record { threshold = omega arith; majority = omega arith; least = λ m a b. omega arith }
+
+-- There are boxes enough for it.
+pub quorum-within : (u : SetUp) → numbersKeep u ≡ true → echoQuorum u ≤ u .n
+quorum-within u h =
+    let s = bounds u h .sizes in
+    quorum u .least (u .n) (omega arith) (omega arith)
+
+-- ---- the rows of the table
+
+-- e is an element other than 1, and its q-th power is 1
+pub record Order (G : Group) (e : Element) : Type 0 where
+  pub above : 1 < e .0
+  pub below : e .0 < G .p
+  pub power : e .0 ^ G .q % G .p ≡ 1
+
+pub record GroupRule (G : Group) : Type 0 where
+  pub p-prime : Prime (G .p)
+  pub q-prime : Prime (G .q)
+  pub twice : G .p ≡ 2 * G .q + 1
+  pub g-order : Order G (G .g)
+  pub h-order : Order G (G .h)
+  pub counted : G .g .0 ^ logarithm G % G .p ≡ G .h .0
+
+order : (G : Group) (e : Element) → hasOrder G e ≡ true → Order G e
+unfolding hasOrder
+order G e h =
+    let h1 = and-right (ltb 1 (e .0)) _ h in
+    record {
+      above = ltb-true 1 (e .0) (and-left (ltb 1 (e .0)) _ h);
+      below = ltb-true (e .0) (G .p) (and-left (ltb (e .0) (G .p)) _ h1);
+      power = eqb-true (e .0 ^ G .q % G .p) 1 (and-right (ltb (e .0) (G .p)) _ h1);
+    }
+
+-- A row that passes the test keeps the rule: "p = 2q + 1, p and q prime; g and h have order q", and the logarithm is one.
+pub row-rule : (G : Group) → rowKeeps G ≡ true → GroupRule G
+unfolding rowKeeps
+row-rule G h =
+    let h1 = and-right (primeb (G .p)) _ h in
+    let h2 = and-right (primeb (G .q)) _ h1 in
+    let h3 = and-right (eqb (G .p) (2 * G .q + 1)) _ h2 in
+    let h4 = and-right (hasOrder G (G .g)) _ h3 in
+    record {
+      p-prime = prime (G .p) (and-left (primeb (G .p)) _ h);
+      q-prime = prime (G .q) (and-left (primeb (G .q)) _ h1);
+      twice = eqb-true (G .p) (2 * G .q + 1) (and-left (eqb (G .p) (2 * G .q + 1)) _ h2);
+      g-order = order G (G .g) (and-left (hasOrder G (G .g)) _ h3);
+      h-order = order G (G .h) (and-left (hasOrder G (G .h)) _ h4);
+      counted = eqb-true (G .g .0 ^ logarithm G % G .p) (G .h .0) (and-right (hasOrder G (G .h)) _ h4);
+    }
+
+-- Every row of the table passes the test, by computation.
+pub rows-keep : allBelow 2 (λ i. rowKeeps (getD groups i noGroup)) ≡ true
+unfolding allBelow firstFrom primeb groups hasOrder logarithm rowKeeps
+rows-keep = refl
+
+-- Each row of the table keeps the rule.
+pub table-rule : (i : ℕ) → i < 2 → GroupRule (getD groups i noGroup)
+table-rule i l = row-rule (getD groups i noGroup) (allBelow-at (λ i. rowKeeps (getD groups i noGroup)) 2 i rows-keep l)
+
+-- The group of a set-up whose group number passes keeps the rule.
+pub group-rule : (u : SetUp) → groupKeeps u ≡ true → GroupRule (groupOf (u .group))
+unfolding groupKeeps groupOf
+group-rule u h =
+    table-rule (u .group - 1)
+    (⊎-elim
+    (λ e. let q = eqb-true (u .group) 1 e in omega arith)
+    (λ e. let q = eqb-true (u .group) 2 e in omega arith)
+    (or-cases (eqb (u .group) 1) (eqb (u .group) 2) h))
