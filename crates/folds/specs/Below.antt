@@ -10,14 +10,12 @@ use native.Mathlib.Nat.{le-of-suc-le-suc, not-suc-le-zero, eq-or-lt-of-le}
 use native.Mathlib.Numerals.{add-one}
 use native.Mathlib.Decide.{ℕ-discrete}
 use native.Mathlib.Omega.{arith}
-use mathlib.Core.Bool.{Bool, true, false, not}
+use mathlib.Core.Bool.{Bool, true, false}
 use mathlib.Core.List.{List}
 use mathlib.Core.Logic.{⊎-elim, _⊎_, inl, inr}
-use mathlib.Core.Path.{_≡_, refl, sym, ap, ap₂, subst, _∙_}
+use mathlib.Core.Path.{_≡_, refl, sym, ap, ap₂, _∙_}
 use lib.ListN.{length, getD, set}
 use lib.Seq.{getD-set-same, getD-set-other}
-use lib.Dec.{ltb}
-use borrow.Author.Tests.{lt-ltb, le-ltb, ltb-true}
 use Rattle.folds.specs.Tests.{_and_, _or_, pick, and-left, and-right, and-intro, and-false, true≢false, or-cases, or-left, or-right}
 
 -- every index below n passes p
@@ -223,6 +221,9 @@ module _ (p : ℕ → Bool) where
       (λ lt. let z = countBelow-some n i lt e in omega arith)
       (eq-or-lt-of-le (le-of-suc-le-suc l))
 
+  apart : {i m n : ℕ} → m ≡ n → i < n → i ≡ m → ⊥
+  apart e l z = omega arith
+
   -- one more index passes: the count goes up by one
   pub countBelow-up : (q : ℕ → Bool) (m n : ℕ) → m < n → p m ≡ false → q m ≡ true → ((i : ℕ) → (i ≡ m → ⊥) → q i ≡ p i) → countBelow n q ≡ countBelow n p + 1
   unfolding countBelow
@@ -230,7 +231,7 @@ module _ (p : ℕ → Bool) where
   countBelow-up q m (suc n) l a b h =
       ⊎-elim
       (λ e.
-      let same : countBelow n q ≡ countBelow n p = countBelow-same q n (λ i lt. h i (λ z. let w : ⊥ = omega arith in w)) in
+      let same = countBelow-same q n (λ i lt. h i (apart e lt)) in
       let an : p n ≡ false = ap p (sym e) ∙ a in
       let bn : q n ≡ true = ap q (sym e) ∙ b in
       rw (an, bn, same) (omega arith))

@@ -1,15 +1,17 @@
 -- Runs of bytes one behind the other (`gather`), and runs of stores (`sets` of `lib.Seq`: l with vs stored from index i).
 --
--- In order: the definition; stores behind stores; stores in a lent tail, said of the whole; a loop that writes one run after the other.
+-- In order: the definition; stores behind stores; stores in a lent tail, said of the whole; a loop that writes one run after the other;
+-- where a run stands in another (`Stands`); what holds of every element (`Every`).
 -- Assumes nothing.
-use Prim.Native.Nat.{ℕ, zero, suc, _+_, _-_, _*_, _<_, _≤_}
-use native.Mathlib.Nat.{le-refl, add-zero, add-suc, zero-mul, suc-mul}
+use Prim.Native.Nat.{ℕ, zero, suc, _+_, _-_, _*_, _<_, _≤_, suc-le-suc}
+use native.Mathlib.Nat.{le-refl, add-zero, add-suc, zero-mul, suc-mul, not-suc-le-zero, le-of-suc-le-suc, eq-or-lt-of-le}
 use native.Mathlib.Numerals.{add-one}
 use native.Mathlib.Omega.{arith}
-use mathlib.Core.Path.{_≡_, refl, sym, ap, subst, _∙_}
+use mathlib.Core.Logic.{⊎-elim}
+use mathlib.Core.Path.{_≡_, refl, sym, ap, ap₂, subst, _∙_}
 use mathlib.Core.List.{List, [], _∷_, _++_, append-assoc, append-nil}
-use lib.ListN.{length, set, take, drop, length-append, length-drop, take-append-drop, drop-of-length-le}
-use lib.Seq.{take-all, sets, sets-eq, length-sets, drop-set-add, take-set-le}
+use lib.ListN.{length, set, getD, take, drop, length-append, length-drop, take-append-drop, drop-of-length-le}
+use lib.Seq.{take-all, sets, sets-eq, drop-set-add, take-set-le, drop-drop, drop-at, drop-cons, getD-drop}
 
 -- f 0, f 1, .. f (n - 1), one behind the other
 unfoldable pub gather : {A : Type 0} → ℕ → (ℕ → List A) → List A
@@ -71,9 +73,121 @@ module _ {A : Type 0} where
     length-gather w h zero = sym (zero-mul w)
     length-gather w h (suc n) = length-append (gather n f) (f n) ∙ (rw (length-gather w h n, h n) (sym (suc-mul n w)))
 
+    pub length-gather-le : (w : ℕ) → ((i : ℕ) → length (f i) ≤ w) → (n : ℕ) → length (gather n f) ≤ n * w
+    unfolding gather
+    length-gather-le w h zero = omega arith
+    length-gather-le w h (suc n) =
+        rw length-append (omega (arith, length-gather-le w h n, h n, suc-mul n w))
+
     pub length-gather-more : (i : ℕ) → length (gather (i + 1) f) ≡ length (gather i f) + length (f i)
     length-gather-more i = ap length (gather-more i) ∙ length-append (gather i f) (f i)
 
     -- a turn of a loop that writes one more of the pieces
     pub sets-gather : (l : List A) (at j i : ℕ) → j ≡ at + length (gather i f) → sets (sets l at (gather i f)) j (f i) ≡ sets l at (gather (i + 1) f)
     sets-gather l at j i e = sets-then l at j (gather i f) (f i) e ∙ ap (sets l at) (sym (gather-more i))
+
+-- r stands in s from p on
+abbrev pub Stands : {A : Type 0} → List A → ℕ → List A → Type 0
+Stands {A} s p r = (rest : List A) × (drop p s ≡ r ++ rest)
+
+module _ {A : Type 0} (s : List A) where
+  pub stands-at : (p q : ℕ) (r : List A) → p ≡ q → Stands s p r → Stands s q r
+  stands-at p q r e h = subst (λ (i : ℕ). Stands s i r) e h
+
+  -- a run that is one run behind another: the two, each at its place
+  pub stands-left : (p : ℕ) (a b : List A) → Stands s p (a ++ b) → Stands s p a
+  stands-left p a b h = (b ++ h .0, h .1 ∙ append-assoc a b (h .0))
+
+  behind : (p n : ℕ) (a rest : List A) → length a ≡ n → drop p s ≡ a ++ rest → drop (p + n) s ≡ rest
+  behind p n a rest e h = sym (drop-drop n p s) ∙ ap (drop n) h ∙ drop-at a rest n e
+
+  pub stands-right : (p n : ℕ) (a b : List A) → length a ≡ n → Stands s p (a ++ b) → Stands s (p + n) b
+  stands-right p n a b e h = (h .0, behind p n a (b ++ h .0) e (h .1 ∙ append-assoc a b (h .0)))
+
+  pub stands-both : (p n : ℕ) (a b : List A) → length a ≡ n → Stands s p a → Stands s (p + n) b → Stands s p (a ++ b)
+  stands-both p n a b e h g =
+      (g .0, h .1 ∙ ap (λ (t : List A). a ++ t) (sym (behind p n a (h .0) e (h .1)) ∙ g .1) ∙ sym (append-assoc a b (g .0)))
+
+  -- a run of pieces of one width: piece i, i widths further on
+  module _ (f : ℕ → List A) (w : ℕ) (e : (i : ℕ) → length (f i) ≡ w) (p : ℕ) where
+    pub stands-piece : (n i : ℕ) → i < n → Stands s p (gather n f) → Stands s (p + i * w) (f i)
+    unfolding gather
+    stands-piece zero i l h = absurd (not-suc-le-zero l)
+    stands-piece (suc n) i l h =
+        ⊎-elim
+        (λ q. subst (λ (j : ℕ). Stands s (p + j * w) (f j)) (sym q) (stands-right p (n * w) (gather n f) (f n) (length-gather f w e n) h))
+        (λ lt. stands-piece n i lt (stands-left p (gather n f) (f n) h))
+        (eq-or-lt-of-le (le-of-suc-le-suc l))
+
+    pub stands-gather : (n : ℕ) → ((i : ℕ) → i < n → Stands s (p + i * w) (f i)) → Stands s p (gather n f)
+    unfolding gather
+    stands-gather zero h = (drop p s, refl)
+    stands-gather (suc n) h =
+        stands-both p (n * w) (gather n f) (f n) (length-gather f w e n) (stands-gather n (λ i l. h i (omega arith))) (h n (omega arith))
+
+  -- one element
+  pub stands-reads : (p : ℕ) (x d : A) (r : List A) → Stands s p (x ∷ r) → getD s p d ≡ x
+  stands-reads p x d r h =
+      ap (λ (i : ℕ). getD s i d) (sym (add-zero p)) ∙ sym (getD-drop p s 0 d) ∙ ap (λ (t : List A). getD t 0 d) (h .1)
+
+  pub stands-element : (p : ℕ) (d : A) → p < length s → Stands s p (getD s p d ∷ [])
+  stands-element p d l = (drop (suc p) s, drop-cons s p d l)
+
+  -- a run that stands at the front and is as long is the whole
+  pub stands-is : (r : List A) → length r ≡ length s → Stands s 0 r → r ≡ s
+  stands-is r e h =
+      let l = ap length (h .1) ∙ length-append r (h .0) in
+      let none : length (h .0) ≡ 0 = omega arith in
+      sym (append-nil r) ∙ ap (λ (t : List A). r ++ t) (sym (empty (h .0) none)) ∙ sym (h .1)
+    where
+      empty : (t : List A) → length t ≡ 0 → t ≡ []
+      empty [] z = refl
+      empty (x ∷ t) z = absurd (omega arith)
+
+  -- four runs of one width, one behind the other, and the places p, q, r, t of each
+  module _ (p q r t w : ℕ) (pq : p + w ≡ q) (qr : q + w ≡ r) (rt : r + w ≡ t) (a b c d : List A)
+      (la : length a ≡ w) (lb : length b ≡ w) (lc : length c ≡ w) where
+    length-two : length (a ++ b) ≡ w + w
+    length-two = length-append a b ∙ ap₂ _+_ la lb
+
+    length-three : length (a ++ b ++ c) ≡ w + w + w
+    length-three = length-append (a ++ b) c ∙ ap₂ _+_ length-two lc
+
+    pub stands-apart : Stands s p (a ++ b ++ c ++ d) → Stands s p a × Stands s q b × Stands s r c × Stands s t d
+    stands-apart h =
+        let h₃ = stands-left p (a ++ b ++ c) d h in
+        let h₂ = stands-left p (a ++ b) c h₃ in (
+          stands-left p a b h₂,
+          stands-at (p + w) q b pq (stands-right p w a b la h₂),
+          stands-at (p + (w + w)) r c (omega arith) (stands-right p (w + w) (a ++ b) c length-two h₃),
+          stands-at (p + (w + w + w)) t d (omega arith) (stands-right p (w + w + w) (a ++ b ++ c) d length-three h),
+        )
+
+    pub stands-together : Stands s p a → Stands s q b → Stands s r c → Stands s t d → Stands s p (a ++ b ++ c ++ d)
+    stands-together ha hb hc hd =
+        stands-both p (w + w + w) (a ++ b ++ c) d length-three
+        (stands-both p (w + w) (a ++ b) c length-two
+        (stands-both p w a b la ha (stands-at q (p + w) b (sym pq) hb))
+        (stands-at r (p + (w + w)) c (omega arith) hc))
+        (stands-at t (p + (w + w + w)) d (omega arith) hd)
+
+-- every element has P
+abbrev pub Every : {A : Type 0} → (A → Type 0) → A → List A → Type 0
+Every P d l = (i : ℕ) → i < length l → P (getD l i d)
+
+module _ {A : Type 0} (P : A → Type 0) (d : A) where
+  pub every-nil : Every P d []
+  every-nil i l = absurd (not-suc-le-zero l)
+
+  pub every-cons : (x : A) (a : List A) → P x → Every P d a → Every P d (x ∷ a)
+  every-cons x a h g zero l = h
+  every-cons x a h g (suc i) l = g i (le-of-suc-le-suc l)
+
+  pub every-append : (a b : List A) → Every P d a → Every P d b → Every P d (a ++ b)
+  every-append [] b h g = g
+  every-append (x ∷ a) b h g = every-cons x (a ++ b) (h 0 (omega arith)) (every-append a b (λ i l. h (suc i) (suc-le-suc l)) g)
+
+  pub every-gather : (f : ℕ → List A) → ((i : ℕ) → Every P d (f i)) → (n : ℕ) → Every P d (gather n f)
+  unfolding gather
+  every-gather f h zero = every-nil
+  every-gather f h (suc n) = every-append (gather n f) (f n) (every-gather f h n) (h n)

@@ -2,13 +2,13 @@
 --
 -- In order: the definition; what a loop that fills an array uses (`-zero`, `-more`); its length; what stands at each index.
 -- Assumes nothing.
-use Prim.Native.Nat.{ℕ, zero, suc, _+_, _<_, _≤_}
+use Prim.Native.Nat.{ℕ, zero, suc, _+_, _<_}
 use native.Mathlib.Nat.{le-of-suc-le-suc, not-suc-le-zero, eq-or-lt-of-le, lt-irrefl}
 use native.Mathlib.Numerals.{add-one}
 use native.Mathlib.Omega.{arith}
 use mathlib.Core.Logic.{⊎-elim}
-use mathlib.Core.Path.{_≡_, refl, sym, ap, subst, _∙_}
-use mathlib.Core.List.{List, [], _∷_}
+use mathlib.Core.Path.{_≡_, refl, sym, ap, ap₂, subst, _∙_}
+use mathlib.Core.List.{List}
 use lib.ListN.{length, set, getD, length-set}
 use lib.Seq.{getD-set-same, getD-set-other, ext-getD}
 
@@ -29,6 +29,12 @@ module _ {A : Type 0} (f : ℕ → A) (l : List A) where
   unfolding stores
   length-stores zero = refl
   length-stores (suc n) = length-set (stores n f l) n (f n) ∙ length-stores n
+
+  -- only what f is below n counts
+  pub stores-same : (g : ℕ → A) (n : ℕ) → ((i : ℕ) → i < n → f i ≡ g i) → stores n f l ≡ stores n g l
+  unfolding stores
+  stores-same g zero h = refl
+  stores-same g (suc n) h = ap₂ (λ (t : List A) (x : A). set t n x) (stores-same g n (λ i lt. h i (omega arith))) (h n (omega arith))
 
   -- what was stored, and what was not
   pub getD-stores : (n i : ℕ) (d : A) → i < n → i < length l → getD (stores n f l) i d ≡ f i

@@ -58,6 +58,16 @@ pub and-false : (b : Bool) → b and false ≡ false
 and-false true = refl
 and-false false = refl
 
+-- a fails or b passes
+pub and-not : (a b : Bool) → (a ≡ true → b ≡ true) → a and not b ≡ false
+and-not true b h = ap not (h refl)
+and-not false b h = refl
+
+pub and-not-false : (a b : Bool) → a and not b ≡ false → a ≡ true → b ≡ true
+and-not-false true true e h = refl
+and-not-false true false e h = absurd (true≢false e)
+and-not-false false b e h = absurd (true≢false (sym h))
+
 pub or-cases : (a b : Bool) → a or b ≡ true → (a ≡ true) ⊎ (b ≡ true)
 or-cases true b e = inl refl
 or-cases false b e = inr e

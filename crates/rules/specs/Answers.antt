@@ -4,10 +4,10 @@
 -- predicate that the contract of the code cites.
 -- Assumes nothing.
 use mathlib.Core.Path.{_≡_}
-use mathlib.Core.Bool.{Bool, true, false, not}
+use mathlib.Core.Bool.{Bool, false, not}
 use mathlib.Core.List.{List, [], _∷_}
 use Prim.Native.Nat.{ℕ, _-_}
-use lib.Dec.{eqb, leb, ltb}
+use lib.Dec.{eqb, ltb}
 use lib.ListN.{length}
 use Rattle.folds.specs.Tests.{_and_, _or_, pick}
 use Rattle.rules.specs.declared.Pair.{Pair}
@@ -17,9 +17,7 @@ use Rattle.rules.specs.declared.Completion.{Completion}
 use Rattle.rules.specs.declared.Completion.the-variants.{NotYet, With}
 use Rattle.rules.specs.declared.Record.{Record}
 use Rattle.rules.specs.declared.SetUp.{SetUp}
-use Rattle.rules.specs.declared.Sent.{Sent}
 use Rattle.rules.specs.declared.Sent.the-variants.{Nothing}
-use Rattle.rules.specs.declared.Answer.{Answer}
 use Rattle.rules.specs.declared.Outcome.{Outcome}
 use Rattle.rules.specs.Numbers.{exponent, groupKeeps, numbersKeep, isBox}
 use Rattle.rules.specs.Messages.{Message, send, echo, ready, recovery, tagIn, hasMatrix, malformed, foreign, messageIn, matrixIn, written}
@@ -94,7 +92,9 @@ answered n x after buffer = done (outcomeOf n x after) (pick (eqb n 0) (written 
 
 unfoldable pub setUpRows : SetUp → List Refusal
 setUpRows u =
+    -- "group not 1 or 2"
     11 when not (groupKeeps u)
+    -- "n, t, k, i, d or the session breaks its rule"
     ∷ 12 when not (numbersKeep u)
     ∷ []
 
@@ -102,54 +102,58 @@ setUpRows u =
 unfoldable pub setUp : SetUp → Outcome
 setUp u = outcomeOf (firstOf (setUpRows u)) (quiet (newRecord u)) zeroRecord
 
+-- the promise of set-up
 abbrev pub SetsUp : SetUp → Outcome → Type 0
 SetsUp u o = o ≡ setUp u
 
 -- ---- commands: "Commands 15, 12, 13, 14."
 
--- 15 "outgoing buffer under 2,048 bytes"; 12 "the record is not sound"
+-- "Every call that can send wants at least 2,048 lent bytes"
 abbrev pub tooShort : List ℕ → Bool
 tooShort buffer = ltb (length buffer) 2048
 
--- 13 "deal by another box than d or a second time"; 14 "secret ≥ q, coins not 2k² - 1 in number, or a coin ≥ q"
 unfoldable pub dealRows : Record → ℕ → List ℕ → List ℕ → List Refusal
 dealRows x secret coins buffer =
     15 when tooShort buffer
     ∷ 12 when not (sound x)
+    -- "deal by another box than d or a second time"
     ∷ 13 when not (eqb (x .setup .i) (x .setup .d)) or x .progress .dealt
+    -- "secret ≥ q, coins not 2k² - 1 in number, or a coin ≥ q"
     ∷ 14 when not (coinsKeep (groupIn x .q) (x .setup .k) secret coins)
     ∷ []
 
 unfoldable pub deal : Record → ℕ → List ℕ → List ℕ → Done
 deal x secret coins buffer = answered (firstOf (dealRows x secret coins buffer)) (dealStep x secret coins) x buffer
 
+-- the promise of a deal
 abbrev pub Deals : Record → ℕ → List ℕ → List ℕ → Outcome → List ℕ → Type 0
 Deals x secret coins buffer o buffer′ = done o buffer′ ≡ deal x secret coins buffer
 
--- 13 "recovery command before completion or a second time"
 unfoldable pub recoverRows : Record → List ℕ → List Refusal
 recoverRows x buffer =
     15 when tooShort buffer
     ∷ 12 when not (sound x)
+    -- "recovery command before completion or a second time"
     ∷ 13 when not (isDone (x .progress .completion)) or x .progress .commanded
     ∷ []
 
 unfoldable pub recover : Record → List ℕ → Done
 recover x buffer = answered (firstOf (recoverRows x buffer)) (recoverStep x) x buffer
 
+-- the promise of a recovery command
 abbrev pub Recovers : Record → List ℕ → Outcome → List ℕ → Type 0
 Recovers x buffer o buffer′ = done o buffer′ ≡ recover x buffer
 
 -- ---- delivery: "Delivery 15, 12, then 1 to 10 by number."
 
--- 9 "an exponent ≥ q"
+-- the exponents of a message are below q
 abbrev pub exponentsKeep : ℕ → ℕ → Message → Bool
 exponentsKeep q k (send C P) = polynomialsBelow q k P
 exponentsKeep q k (echo C f) = fourBelow q f
 exponentsKeep q k (ready C f) = fourBelow q f
 exponentsKeep q k (recovery s) = pairBelow q s
 
--- 10 "the check of its kind fails": a recovery share is checked against the completed matrix
+-- the check of a message's kind, from box m; a recovery share is checked against the completed matrix
 abbrev pub shareChecks : Record → Completion → ℕ → Pair → Bool
 shareChecks x NotYet m s = false
 shareChecks x (With c) m s = shareCheck (groupIn x) (x .setup .k) (matrixOf (slotAt x c)) m s
@@ -164,15 +168,23 @@ unfoldable pub deliverRows : Record → ℕ → List ℕ → List ℕ → List R
 deliverRows x sender bytes buffer =
     15 when tooShort buffer
     ∷ 12 when not (sound x)
+    -- "sender is 0 or above n"
     ∷ 1 when not (isBox (x .setup) sender)
     ∷ 2 when malformed (x .setup .k) bytes
     ∷ 3 when foreign (x .setup) bytes
+    -- "a send from a box other than d"
     ∷ 4 when eqb (tagIn bytes) 1 and not (eqb sender (x .setup .d))
+    -- "recovery share before this box has completed and been commanded"
     ∷ 5 when eqb (tagIn bytes) 4 and not (isDone (x .progress .completion) and x .progress .commanded)
+    -- "recovery share after the pair was given"
     ∷ 6 when eqb (tagIn bytes) 4 and isThere (x .recovered .kept)
+    -- "sender already heard for this tag"
     ∷ 7 when heardFor x (tagIn bytes) (sender - 1)
+    -- "a matrix entry e is 0, ≥ p, or e^q is not 1"
     ∷ 8 when hasMatrix (tagIn bytes) and not (matrixPasses (groupIn x) (x .setup .k) (matrixIn (x .setup .k) bytes))
+    -- "an exponent ≥ q"
     ∷ 9 when not (exponentsKeep (groupIn x .q) (x .setup .k) (messageIn (x .setup .k) bytes))
+    -- "the check of its kind fails"
     ∷ 10 when not (checks x sender (messageIn (x .setup .k) bytes))
     ∷ []
 
@@ -188,5 +200,6 @@ deliver x sender bytes buffer =
     (refusalHeard (firstOf (deliverRows x sender bytes buffer)) x sender bytes)
     buffer
 
+-- the promise of a delivery
 abbrev pub Delivers : Record → ℕ → List ℕ → List ℕ → Outcome → List ℕ → Type 0
 Delivers x sender bytes buffer o buffer′ = done o buffer′ ≡ deliver x sender bytes buffer

@@ -4,11 +4,11 @@
 -- numbers all, and the remainder is taken at the end.
 -- Assumes nothing.
 use mathlib.Core.Bool.{Bool, not}
-use mathlib.Core.List.{List, [], _∷_}
+use mathlib.Core.List.{List, _∷_}
 use Prim.Native.Nat.{ℕ, _+_, _*_, _-_, _%_, _^_}
 use lib.Dec.{eqb, ltb}
 use lib.ListN.{length, getD}
-use Rattle.folds.specs.Tests.{_and_, _or_}
+use Rattle.folds.specs.Tests.{_and_}
 use Rattle.folds.specs.Below.{allBelow, sumBelow, prodBelow}
 use Rattle.rules.specs.declared.Exponent.{Exponent}
 use Rattle.rules.specs.declared.Element.{Element}

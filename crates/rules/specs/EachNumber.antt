@@ -9,7 +9,6 @@ use Rattle.rules.specs.declared.Element.{Element}
 use Rattle.rules.specs.declared.Four.{Four}
 use Rattle.rules.specs.declared.Outcome.{Outcome}
 use Rattle.rules.specs.declared.Record.{Record}
-use Rattle.rules.specs.declared.SetUp.{SetUp}
 use Rattle.rules.specs.Numbers.{element}
 use Rattle.rules.specs.Matrices.{matrix}
 use Rattle.rules.specs.Messages.{Message, send, echo, ready, recovery, bytesOf}

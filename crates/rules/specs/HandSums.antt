@@ -3,17 +3,15 @@
 -- Group 1, n 4, t 1, k 2; f = 5 + 3y + 2x + 4xy, f' = 1 + 6y + 7x + 9xy.
 -- Assumes nothing.
 use mathlib.Core.Path.{_≡_, refl}
-use mathlib.Core.Bool.{Bool, true, false}
+use mathlib.Core.Bool.{true, false}
 use mathlib.Core.List.{List, [], _∷_}
 use Prim.Native.Nat.{ℕ, _+_, _*_}
 use lib.ListN.{getD}
 use Rattle.rules.specs.declared.Element.{Element}
-use Rattle.rules.specs.declared.Exponent.{Exponent}
 use Rattle.rules.specs.declared.Four.{Four}
 use Rattle.rules.specs.declared.Group.{Group}
 use Rattle.rules.specs.declared.Pair.{Pair}
 use Rattle.rules.specs.declared.Polynomials.{Polynomials}
-use Rattle.rules.specs.declared.Record.{Record}
 use Rattle.rules.specs.declared.SetUp.{SetUp}
 use Rattle.rules.specs.declared.Slot.{Slot}
 use Rattle.rules.specs.Numbers.{exponent, element, groupOf, echoQuorum}

@@ -1,7 +1,7 @@
 -- Rows of 8 and matrices of 8 by 8, of which the first k rows and columns are in use and the rest is zero; and how a number
 -- is read out of a matrix, a polynomial, a point.
 -- Assumes nothing.
-use mathlib.Core.List.{List, [], _∷_}
+use mathlib.Core.List.{List, []}
 use Prim.Native.Nat.{ℕ}
 use lib.ListN.{getD, replicate}
 use Rattle.folds.specs.Stores.{stores}

@@ -4,7 +4,7 @@
 -- Index m of an array that has a place for each box stands for box m + 1, and index s of the slots for place s.
 -- Assumes nothing.
 use mathlib.Core.Bool.{Bool, true, false, not}
-use mathlib.Core.List.{List, [], _∷_, map}
+use mathlib.Core.List.{List, [], map}
 use Prim.Native.Nat.{ℕ, _+_, _-_}
 use lib.Dec.{eqb, leb, ltb}
 use lib.ListN.{getD, replicate}
@@ -13,8 +13,6 @@ use Rattle.folds.specs.Below.{allBelow, anyBelow, countBelow}
 use Rattle.rules.specs.declared.Element.{Element}
 use Rattle.rules.specs.declared.Group.{Group}
 use Rattle.rules.specs.declared.SetUp.{SetUp}
-use Rattle.rules.specs.declared.Four.{Four}
-use Rattle.rules.specs.declared.Pair.{Pair}
 use Rattle.rules.specs.declared.Point.{Point}
 use Rattle.rules.specs.declared.Point.the-variants.{Silent, Held}
 use Rattle.rules.specs.declared.Place.{Place}
@@ -26,7 +24,6 @@ use Rattle.rules.specs.declared.Marks.{Marks}
 use Rattle.rules.specs.declared.Slot.{Slot}
 use Rattle.rules.specs.declared.Completion.{Completion}
 use Rattle.rules.specs.declared.Completion.the-variants.{NotYet, With}
-use Rattle.rules.specs.declared.Progress.{Progress}
 use Rattle.rules.specs.declared.Record.{Record}
 use Rattle.rules.specs.Numbers.{element, groupOf, groupKeeps, numbersKeep, echoQuorum}
 use Rattle.rules.specs.Matrices.{entry}

@@ -12,7 +12,6 @@ use Rattle.folds.specs.Below.{firstFrom}
 use Rattle.folds.specs.Runs.{gather}
 use Rattle.algebra.specs.Interpolation.{interpolate}
 use Rattle.rules.specs.declared.Element.{Element}
-use Rattle.rules.specs.declared.Exponent.{Exponent}
 use Rattle.rules.specs.declared.Four.{Four}
 use Rattle.rules.specs.declared.Pair.{Pair}
 use Rattle.rules.specs.declared.Polynomials.{Polynomials}

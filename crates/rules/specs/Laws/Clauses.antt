@@ -1,9 +1,8 @@
 -- A sound record, clause by clause.
 -- Assumes nothing.
-use mathlib.Core.Path.{_≡_, refl}
+use mathlib.Core.Path.{_≡_}
 use mathlib.Core.Bool.{Bool, true}
-use Prim.Native.Nat.{ℕ}
-use Rattle.folds.specs.Tests.{_and_, and-left, and-right, and-intro}
+use Rattle.folds.specs.Tests.{_and_, and-left, and-right}
 use Rattle.folds.specs.Below.{allBelow}
 use Rattle.rules.specs.declared.Record.{Record}
 use Rattle.rules.specs.Record.{slotAt, setupKeeps, exponentsBelow, matricesDiffer, matricesPass, marksKeep, placesKeep, useKeeps, pairKeeps, completionKeeps, recoveryKeeps, dealtKeeps, unusedZero, sound}

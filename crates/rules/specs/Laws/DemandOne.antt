@@ -18,14 +18,13 @@ use Rattle.folds.specs.Tests.{_and_, _or_, pick, pick-true, pick-false, true≢
 use Rattle.rules.specs.declared.Marks.{Marks}
 use Rattle.rules.specs.declared.Record.{Record}
 use Rattle.rules.specs.declared.SetUp.{SetUp}
-use Rattle.rules.specs.declared.Sent.{Sent}
 use Rattle.rules.specs.declared.Sent.the-variants.{Nothing}
 use Rattle.rules.specs.declared.Outcome.{Outcome}
 use Rattle.rules.specs.Messages.{tagIn, hasMatrix}
 use Rattle.rules.specs.Record.{noMarks, marked, heardFor, zeroRecord}
 use Rattle.rules.specs.Steps.{Step, mark, heard}
 use Rattle.rules.specs.Laws.Shape.{Shaped}
-use Rattle.rules.specs.Answers.{Refusal, _when_, firstOf, Done, done, noPair, accepted, refused, outcomeOf, answered, setUpRows, setUp, SetsUp, dealRows, deal, Deals, recoverRows, recover, Recovers, deliverRows, refusalHeard, deliver, Delivers}
+use Rattle.rules.specs.Answers.{Refusal, firstOf, Done, done, noPair, accepted, refused, outcomeOf, answered, setUpRows, setUp, SetsUp, dealRows, deal, Deals, recoverRows, recover, Recovers, deliverRows, refusalHeard, deliver, Delivers}
 
 -- ---- the first row of a table that holds
 

@@ -1,6 +1,6 @@
 -- The lengths of a record's arrays. The declared types fix them; of a record as antt sees it they are a hypothesis.
 -- Assumes nothing.
-use mathlib.Core.Path.{_≡_, refl}
+use mathlib.Core.Path.{_≡_}
 use Prim.Native.Nat.{ℕ, _<_}
 use lib.ListN.{length, getD}
 use Rattle.rules.specs.declared.Slot.{Slot}
