@@ -8,11 +8,11 @@ use Rattle.algebra.specs.Interpolation.{interpolate, others}
 use Rattle.rules.specs.Numbers.{groups, groupOf, hasOrder, logarithm, rowKeeps, groupKeeps, sizesKeep, isBox, numbersKeep, echoQuorum}
 use Rattle.rules.specs.Matrices.{row, matrix}
 use Rattle.rules.specs.Messages.{twoBytes, matrixBytes, coefficientBytes, polynomialBytes, fourBytes, pairBytes, tagOf, bodyOf, framed, bytesOf, wholeLength, toEach, written, word, hasMatrix, malformed, foreign, matrixIn, coefficientsIn, polynomialsIn, fourIn, pairIn, messageIn}
-use Rattle.rules.specs.Dealing.{fOf, f′Of, coinsKeep, committed, commitment, alongY, alongX, polynomialsOf, valueAt, inGroup, matrixPasses, coefficientsBelow, polynomialsBelow, fourBelow, pairBelow, polynomialCheck, openedAt, pointCheck, shareCheck}
+use Rattle.rules.specs.Dealing.{fromCoins, fOf, f′Of, coinsKeep, committed, commitment, alongY, alongX, polynomialsOf, valueAt, inGroup, matrixPasses, coefficientsBelow, polynomialsBelow, fourBelow, pairBelow, polynomialCheck, openedAt, pointCheck, shareCheck}
 use Rattle.rules.specs.Record.{matrixOf, countE, countR, sharesKept, sameMatrix, zeroSlot, newRecord, zeroRecord, setupKeeps, slotBelow, exponentsBelow, matricesDiffer, matricesPass, marksKeep, placesKeep, useKeeps, pairKeeps, recoveryKeeps, dealtKeeps, entriesZero, senderZero, unusedZero, sound}
 use Rattle.rules.specs.Steps.{heard, points, sharePoints, through, pairFrom, readyFour, echoFour, recoveredFrom, ownSlot, freeSlot, slotFor, opened, echoed, readied, keeping, sendStep, readySent, echoAt, echoStep, completing, completed, readyAt, readyStep, recovering, shareStep, dealStep, recoverStep}
 use Rattle.rules.specs.Answers.{firstOf, accepted, refused, outcomeOf, answered, setUpRows, setUp, dealRows, deal, recoverRows, recover, deliverRows, refusalHeard, deliver}
 
 unfoldable pub computed : Unit {0}
-unfolding allBelow anyBelow firstFrom countBelow sumBelow prodBelow stores gather primeb inverse inverseBy interpolate others groups groupOf hasOrder logarithm rowKeeps groupKeeps sizesKeep isBox numbersKeep echoQuorum row matrix twoBytes matrixBytes coefficientBytes polynomialBytes fourBytes pairBytes tagOf bodyOf framed bytesOf wholeLength toEach written word hasMatrix malformed foreign matrixIn coefficientsIn polynomialsIn fourIn pairIn messageIn fOf f′Of coinsKeep committed commitment alongY alongX polynomialsOf valueAt inGroup matrixPasses coefficientsBelow polynomialsBelow fourBelow pairBelow polynomialCheck openedAt pointCheck shareCheck matrixOf countE countR sharesKept sameMatrix zeroSlot newRecord zeroRecord setupKeeps slotBelow exponentsBelow matricesDiffer matricesPass marksKeep placesKeep useKeeps pairKeeps recoveryKeeps dealtKeeps entriesZero senderZero unusedZero sound heard points sharePoints through pairFrom readyFour echoFour recoveredFrom ownSlot freeSlot slotFor opened echoed readied keeping sendStep readySent echoAt echoStep completing completed readyAt readyStep recovering shareStep dealStep recoverStep firstOf accepted refused outcomeOf answered setUpRows setUp dealRows deal recoverRows recover deliverRows refusalHeard deliver
+unfolding allBelow anyBelow firstFrom countBelow sumBelow prodBelow stores gather primeb inverse inverseBy interpolate others groups groupOf hasOrder logarithm rowKeeps groupKeeps sizesKeep isBox numbersKeep echoQuorum row matrix twoBytes matrixBytes coefficientBytes polynomialBytes fourBytes pairBytes tagOf bodyOf framed bytesOf wholeLength toEach written word hasMatrix malformed foreign matrixIn coefficientsIn polynomialsIn fourIn pairIn messageIn fromCoins fOf f′Of coinsKeep committed commitment alongY alongX polynomialsOf valueAt inGroup matrixPasses coefficientsBelow polynomialsBelow fourBelow pairBelow polynomialCheck openedAt pointCheck shareCheck matrixOf countE countR sharesKept sameMatrix zeroSlot newRecord zeroRecord setupKeeps slotBelow exponentsBelow matricesDiffer matricesPass marksKeep placesKeep useKeeps pairKeeps recoveryKeeps dealtKeeps entriesZero senderZero unusedZero sound heard points sharePoints through pairFrom readyFour echoFour recoveredFrom ownSlot freeSlot slotFor opened echoed readied keeping sendStep readySent echoAt echoStep completing completed readyAt readyStep recovering shareStep dealStep recoverStep firstOf accepted refused outcomeOf answered setUpRows setUp dealRows deal recoverRows recover deliverRows refusalHeard deliver
 computed = tt

@@ -21,13 +21,17 @@ use Rattle.rules.specs.Matrices.{row, matrix, entry, coefficient, coeffi
 
 -- ---- dealing
 
+-- k by k coefficients, row by row, from number `from` on of the secret and the coins behind it
+unfoldable pub fromCoins : ℕ → ℕ → List ℕ → ℕ → List (List Exponent)
+fromCoins k secret coins from = matrix k (exponent 0) (λ j l. exponent (getD (secret ∷ coins) (from + (j * k + l)) 0))
+
 -- "The coins are 2k² - 1 numbers below q: the coefficients of f row by row without the first (which is the secret)"
 unfoldable pub fOf : ℕ → ℕ → List ℕ → List (List Exponent)
-fOf k secret coins = matrix k (exponent 0) (λ j l. exponent (getD (secret ∷ coins) (j * k + l) 0))
+fOf k secret coins = fromCoins k secret coins 0
 
 -- "then all of f'"
 unfoldable pub f′Of : ℕ → ℕ → List ℕ → List (List Exponent)
-f′Of k secret coins = matrix k (exponent 0) (λ j l. exponent (getD (secret ∷ coins) (k * k + (j * k + l)) 0))
+f′Of k secret coins = fromCoins k secret coins (k * k)
 
 -- refusal 14: "secret ≥ q, coins not 2k² - 1 in number, or a coin ≥ q"
 unfoldable pub coinsKeep : ℕ → ℕ → ℕ → List ℕ → Bool
