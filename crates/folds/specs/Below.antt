@@ -16,7 +16,7 @@ use mathlib.Core.Logic.{⊎-elim, _⊎_, inl, inr}
 use mathlib.Core.Path.{_≡_, refl, sym, ap, ap₂, _∙_}
 use lib.ListN.{length, getD, set}
 use lib.Seq.{getD-set-same, getD-set-other}
-use Rattle.folds.specs.Tests.{_and_, _or_, pick, and-left, and-right, and-intro, and-false, true≢false, or-cases, or-left, or-right}
+use Rattle.folds.specs.Tests.{_and_, _or_, pick, and-left, and-right, and-intro, and-false, true≢false, or-cases, or-left, or-right, false-unless}
 
 -- every index below n passes p
 unfoldable pub allBelow : ℕ → (ℕ → Bool) → Bool
@@ -250,6 +250,37 @@ module _ (p : ℕ → Bool) where
       go : (b : Bool) → p n ≡ b → countBelow n p ≤ countBelow n q → countBelow n p + pick b 1 0 ≤ countBelow n q + pick (q n) 1 0
       go true e l = rw (h n (omega arith) e) (omega arith)
       go false e l = omega arith
+
+  -- at most one passes exactly if any two that pass are one
+  pub countBelow-one : (n : ℕ) → ((i j : ℕ) → i < n → j < n → p i ≡ true → p j ≡ true → i ≡ j) → countBelow n p ≤ 1
+  unfolding countBelow
+  countBelow-one zero h = omega arith
+  countBelow-one (suc n) h = go (p n) refl (countBelow-one n (λ i j l g. h i j (omega arith) (omega arith)))
+    where
+      go : (b : Bool) → p n ≡ b → countBelow n p ≤ 1 → countBelow n p + pick b 1 0 ≤ 1
+      go true e l =
+          let none : countBelow n p ≡ 0 = countBelow-none n (λ i g. false-unless (p i) (λ q. let z = h i n (omega arith) (omega arith) q e in let w : ⊥ = omega arith in w)) in
+          omega arith
+      go false e l = omega arith
+
+  pub countBelow-two : (n i j : ℕ) → countBelow n p ≤ 1 → i < n → j < n → p i ≡ true → p j ≡ true → i ≡ j
+  unfolding countBelow
+  countBelow-two zero i j h l g e f = absurd (not-suc-le-zero l)
+  countBelow-two (suc n) i j h l g e f = go (eq-or-lt-of-le (le-of-suc-le-suc l)) (eq-or-lt-of-le (le-of-suc-le-suc g)) (countBelow-two n i j)
+    where
+      -- the last passes, so none before it does
+      last : (a b : ℕ) → a ≡ n → b < n → p a ≡ true → p b ≡ true → ⊥
+      last a b q lt ea eb =
+          let z : p n ≡ true = sym (ap p q) ∙ ea in
+          let one : pick {A = ℕ} (p n) 1 0 ≡ 1 = ap (λ (t : Bool). pick {A = ℕ} t 1 0) z in
+          let some = countBelow-some n b lt eb in
+          omega arith
+
+      go : (i ≡ n) ⊎ (i < n) → (j ≡ n) ⊎ (j < n) → (countBelow n p ≤ 1 → i < n → j < n → p i ≡ true → p j ≡ true → i ≡ j) → i ≡ j
+      go (inl a) (inl b) ih = a ∙ sym b
+      go (inl a) (inr b) ih = absurd (last i j a b e f)
+      go (inr a) (inl b) ih = absurd (last j i b a f e)
+      go (inr a) (inr b) ih = ih (omega arith) a b e f
 
   -- a count is a sum of ones
   pub countBelow-sum : (n : ℕ) → countBelow n p ≡ sumBelow n (λ i. pick (p i) 1 0)

@@ -1,9 +1,11 @@
 -- Arrays filled from the front: `stores n f l` is l with f 0, f 1, .. f (n - 1) stored one after the other.
 --
--- In order: the definition; what a loop that fills an array uses (`-zero`, `-more`); its length; what stands at each index.
+-- In order: the definition; what a loop that fills an array uses (`-zero`, `-more`); its length; what stands at each index;
+-- what one store leaves true of each index.
 -- Assumes nothing.
-use Prim.Native.Nat.{ℕ, zero, suc, _+_, _<_}
+use Prim.Native.Nat.{ℕ, zero, suc, _+_, _<_, _≤_}
 use native.Mathlib.Nat.{le-of-suc-le-suc, not-suc-le-zero, eq-or-lt-of-le, lt-irrefl}
+use native.Mathlib.Decide.{ℕ-discrete}
 use native.Mathlib.Numerals.{add-one}
 use native.Mathlib.Omega.{arith}
 use mathlib.Core.Logic.{⊎-elim}
@@ -46,8 +48,23 @@ module _ {A : Type 0} (f : ℕ → A) (l : List A) where
       (λ lt. getD-set-other (stores n f l) n i (f n) d (λ e. lt-irrefl n (subst (λ (k : ℕ). k < n) e lt)) ∙ getD-stores n i d lt g)
       (eq-or-lt-of-le (le-of-suc-le-suc h))
 
+  pub getD-stores-behind : (n i : ℕ) (d : A) → n ≤ i → getD (stores n f l) i d ≡ getD l i d
+  unfolding stores
+  getD-stores-behind zero i d h = refl
+  getD-stores-behind (suc n) i d h =
+      getD-set-other (stores n f l) n i (f n) d (λ e. let w : ⊥ = omega arith in w) ∙ getD-stores-behind n i d (omega arith)
+
   -- a list whose every element was stored
   pub stores-is : (n : ℕ) (xs : List A) (d : A) → length l ≡ n → length xs ≡ n → ((i : ℕ) → i < n → f i ≡ getD xs i d) → stores n f l ≡ xs
   stores-is n xs d e g h =
       let w = length-stores n in
       ext-getD d (stores n f l) xs (w ∙ e ∙ sym g) (λ i lt. let z : i < n = omega arith in getD-stores n i d z (omega arith) ∙ h i z)
+
+-- an element anew: what holds of it there and of each other one holds of each
+pub set-each {ℓ} : {A : Type 0} (P : ℕ → A → Type ℓ) (l : List A) (s : ℕ) (v d : A) → s < length l → P s v → ((r : ℕ) → (r ≡ s → ⊥) → P r (getD l r d))
+    → (r : ℕ) → P r (getD (set l s v) r d)
+set-each P l s v d g own others r = go (ℕ-discrete r s)
+  where
+    go : Dec (r ≡ s) → P r (getD (set l s v) r d)
+    go (yes e) = rw (e, getD-set-same l s v d g) own
+    go (no n) = rw (getD-set-other l s r v d n) (others r n)

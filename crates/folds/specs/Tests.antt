@@ -63,10 +63,9 @@ pub and-not : (a b : Bool) → (a ≡ true → b ≡ true) → a and not b ≡ f
 and-not true b h = ap not (h refl)
 and-not false b h = refl
 
-pub and-not-false : (a b : Bool) → a and not b ≡ false → a ≡ true → b ≡ true
-and-not-false true true e h = refl
-and-not-false true false e h = absurd (true≢false e)
-and-not-false false b e h = absurd (true≢false (sym h))
+pub and-rest : (a b : Bool) → a and b ≡ false → a ≡ true → b ≡ false
+and-rest true b h e = h
+and-rest false b h e = absurd (true≢false (sym e))
 
 pub or-cases : (a b : Bool) → a or b ≡ true → (a ≡ true) ⊎ (b ≡ true)
 or-cases true b e = inl refl
@@ -115,3 +114,13 @@ pub iff-same : (a b : Bool) → (a ≡ true → b ≡ true) → (b ≡ true → 
 iff-same true b f g = sym (f refl)
 iff-same false true f g = g refl
 iff-same false false f g = refl
+
+-- a test that cannot pass fails
+pub false-unless : (b : Bool) → (b ≡ true → ⊥) → b ≡ false
+false-unless true h = absurd (h refl)
+false-unless false h = refl
+
+-- what is picked is as both would be, each where it is picked
+pub pick-either {ℓ} : {A : Type 0} (P : A → Type ℓ) (b : Bool) (x y : A) → (b ≡ true → P x) → (b ≡ false → P y) → P (pick b x y)
+pick-either P true x y f g = f refl
+pick-either P false x y f g = g refl

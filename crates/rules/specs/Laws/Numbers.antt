@@ -48,7 +48,8 @@ pub record Bounds (u : SetUp) : Type 0 where
   pub dealer : (1 ≤ u .d) × (u .d ≤ u .n)
   pub session : u .session ≤ 65535
 
-is-box : (u : SetUp) (m : ℕ) → isBox u m ≡ true → (1 ≤ m) × (m ≤ u .n)
+-- A number that passes is a box.
+pub is-box : (u : SetUp) (m : ℕ) → isBox u m ≡ true → (1 ≤ m) × (m ≤ u .n)
 unfolding isBox
 is-box u m h = (leb-true 1 m (and-left (leb 1 m) _ h), leb-true m (u .n) (and-right (leb 1 m) _ h))
 

@@ -15,7 +15,7 @@ use native.Mathlib.Omega.{arith}
 use lib.Dec.{eqb, leb, ltb}
 use lib.ListN.{length, getD, List·getD-eq-default}
 use borrow.Author.Tests.{ltb-false, leb-true, eqb-true, le-ltb, le-leb, eq-eqb, not-false}
-use Rattle.folds.specs.Tests.{_and_, and-left, and-right, and-intro, or-false, or-none, and-not-false, and-not}
+use Rattle.folds.specs.Tests.{_and_, and-left, and-right, and-intro, or-false, or-none, and-rest, and-not}
 use Rattle.folds.specs.Runs.{gather, Stands, stands-at, stands-left, stands-right, stands-both, stands-piece, stands-gather, stands-reads, stands-element, stands-is, stands-apart, stands-together, every-nil, every-cons, every-append, every-gather}
 use Rattle.rules.specs.declared.Exponent.{Exponent}
 use Rattle.rules.specs.declared.Element.{Element}
@@ -316,7 +316,7 @@ formed k s z =
       high = leb-true (tagIn s) 4 (and-right (leb 1 (tagIn s)) (leb (tagIn s) 4) tag);
       size = eqb-true (word s 1) (length s - 3) (not-false _ (z₃ .0));
       whole = eqb-true (length s) (wholeLength (tagIn s) k) (not-false _ (z₄ .0));
-      kByte = λ l. eqb-true (getD s 6 0) k (and-not-false (leb (tagIn s) 3) (eqb (getD s 6 0) k) (z₄ .1) (le-leb (tagIn s) 3 l));
+      kByte = λ l. eqb-true (getD s 6 0) k (not-false _ (and-rest (leb (tagIn s) 3) _ (z₄ .1) (le-leb (tagIn s) 3 l)));
     }
 
 not-malformed : (k : ℕ) (s : List ℕ) → Formed k s → malformed k s ≡ false

@@ -1,0 +1,198 @@
+-- Kept: from a sound record, whatever the arguments, the record after is sound; so a box that keeps the rules never meets 12.
+--
+-- In the modules below, over the facts of a sound record (`Facts`, `Sound`): the slot of an echo or ready (`OpenSlot`,
+-- `TakenSlot`); one part of the record anew (`Changes`); the checked messages (`Checked`). Here: the order of refusals; what
+-- a call leaves; the theorem for each call.
+-- Assumes nothing.
+use mathlib.Core.Path.{_≡_, refl}
+use mathlib.Core.Bool.{Bool, true, false, not}
+use mathlib.Core.List.{List, _∷_}
+use mathlib.Core.Logic.{⊎-elim}
+use Prim.Native.Nat.{ℕ, _-_, _<_, _≤_}
+use native.Mathlib.Omega.{arith}
+use lib.Dec.{eqb, leb}
+use borrow.Author.Tests.{le-leb, eq-eqb, leb-true, eqb-true, eqb-false, not-false}
+use Rattle.folds.specs.Tests.{_and_, _or_, and-left, and-right, and-rest, or-false, or-cases, pick-either}
+use Rattle.rules.specs.declared.SetUp.{SetUp}
+use Rattle.rules.specs.declared.Record.{Record}
+use Rattle.rules.specs.declared.Outcome.{Outcome}
+use Rattle.rules.specs.Numbers.{isBox}
+use Rattle.rules.specs.Messages.{Message, send, echo, ready, recovery, tagIn, hasMatrix, matrixIn, polynomialsIn, fourIn, pairIn, messageIn}
+use Rattle.rules.specs.Dealing.{matrixPasses}
+use Rattle.rules.specs.Record.{groupIn, heardFor, isDone, isThere, sound}
+use Rattle.rules.specs.Steps.{Step, heard, sendStep, messageStep, dealStep, recoverStep}
+use Rattle.rules.specs.Answers.{Refusal, _when_, firstOf, accepted, refused, outcomeOf, answered, dealRows, deal, recoverRows, recover, exponentsKeep, deliverRows, refusalHeard, deliver}
+use Rattle.rules.specs.Laws.Numbers.{is-box}
+use Rattle.rules.specs.Laws.Shape.{Shaped}
+use Rattle.rules.specs.Laws.RoundTrip.{formed}
+pub mod OpenSlot
+pub mod TakenSlot
+pub mod Changes
+pub mod Checked
+use Rattle.rules.specs.Laws.Sound.{sound-facts, facts-sound}
+use OpenSlot.{matrix-fits}
+use Changes.{Good, progress-good, heard-good}
+use Checked.{echo-good, ready-good, recovery-good}
+
+-- ---- the order of refusals
+
+-- a row with another number than the answer does not hold
+past : (v n : ℕ) (b : Bool) (rows : List Refusal) → (n ≡ v → ⊥) → firstOf (n when b ∷ rows) ≡ v → (b ≡ false) × (firstOf rows ≡ v)
+unfolding firstOf
+past v n true rows d e = absurd (d e)
+past v n false rows d e = (refl, e)
+
+-- ---- what a call leaves
+
+answered-good : (n : ℕ) (st : Step) (after : Record) (buffer : List ℕ) → (n ≡ 0 → Good (st .after)) → ((n ≡ 0 → ⊥) → Good after)
+    → Good (answered n st after buffer .outcome .next)
+unfolding answered outcomeOf accepted refused
+answered-good n st after buffer f g =
+    pick-either (λ (o : Outcome). Good (o .next)) (eqb n 0) (accepted st) (refused n after) (λ e. f (eqb-true n 0 e)) (λ e. g (eqb-false n 0 e))
+
+good-of : (x : Record) → sound x ≡ true → Shaped x → Good x
+good-of x h shape = record { facts = sound-facts x h; shape = shape }
+
+sound-of : (x : Record) → Good x → (sound x ≡ true) × Shaped x
+sound-of x g = (facts-sound x (g .facts), g .shape)
+
+-- ---- the calls
+
+deal-good : (x : Record) (secret : ℕ) (coins buffer : List ℕ) → Good x → firstOf (dealRows x secret coins buffer) ≡ 0 → Good (dealStep x secret coins .after)
+unfolding dealRows dealStep
+deal-good x secret coins buffer g e =
+    let r1 = past 0 15 _ _ (omega arith) e in
+    let r2 = past 0 12 _ _ (omega arith) (r1 .1) in
+    let r3 = past 0 13 _ _ (omega arith) (r2 .1) in
+    progress-good x _ g (g .facts .completion) (g .facts .commanded) (λ q. q) (λ q. not-false _ (or-false (not (eqb (x .setup .i) (x .setup .d))) _ (r3 .0) .0))
+
+-- The record after a deal is sound.
+pub deal-kept : (x : Record) (secret : ℕ) (coins buffer : List ℕ) → sound x ≡ true → Shaped x
+    → (sound (deal x secret coins buffer .outcome .next) ≡ true) × Shaped (deal x secret coins buffer .outcome .next)
+unfolding deal
+deal-kept x secret coins buffer h shape =
+    sound-of _ (answered-good _ (dealStep x secret coins) x buffer (deal-good x secret coins buffer (good-of x h shape)) (λ e. good-of x h shape))
+
+recover-good : (x : Record) (buffer : List ℕ) → Good x → firstOf (recoverRows x buffer) ≡ 0 → Good (recoverStep x .after)
+unfolding recoverRows recoverStep
+recover-good x buffer g e =
+    let r1 = past 0 15 _ _ (omega arith) e in
+    let r2 = past 0 12 _ _ (omega arith) (r1 .1) in
+    let r3 = past 0 13 _ _ (omega arith) (r2 .1) in
+    progress-good x _ g (g .facts .completion) (λ q. not-false _ (or-false (not (isDone (x .progress .completion))) _ (r3 .0) .0)) (λ q. refl) (g .facts .dealt)
+
+-- The record after a recovery command is sound.
+pub recover-kept : (x : Record) (buffer : List ℕ) → sound x ≡ true → Shaped x
+    → (sound (recover x buffer .outcome .next) ≡ true) × Shaped (recover x buffer .outcome .next)
+unfolding recover
+recover-kept x buffer h shape = sound-of _ (answered-good _ (recoverStep x) x buffer (recover-good x buffer (good-of x h shape)) (λ e. good-of x h shape))
+
+-- ---- delivery
+
+-- the sender's place
+box-place : (u : SetUp) (sender : ℕ) → not (isBox u sender) ≡ false → sender - 1 < u .n
+box-place u sender e = let b = is-box u sender (not-false _ e) in omega arith
+
+-- what the rows of the table leave of a delivery that is accepted
+record Passed (x : Record) (sender : ℕ) (bytes : List ℕ) : Type 0 where
+  within : sender - 1 < x .setup .n
+  tag : (1 ≤ tagIn bytes) × (tagIn bytes ≤ 4)
+  commanded : eqb (tagIn bytes) 4 and not (isDone (x .progress .completion) and x .progress .commanded) ≡ false
+  unrecovered : eqb (tagIn bytes) 4 and isThere (x .recovered .kept) ≡ false
+  unheard : heardFor x (tagIn bytes) (sender - 1) ≡ false
+  passes : hasMatrix (tagIn bytes) and not (matrixPasses (groupIn x) (x .setup .k) (matrixIn (x .setup .k) bytes)) ≡ false
+  exponents : exponentsKeep (groupIn x .q) (x .setup .k) (messageIn (x .setup .k) bytes) ≡ true
+
+rows-passed : (x : Record) (sender : ℕ) (bytes buffer : List ℕ) → firstOf (deliverRows x sender bytes buffer) ≡ 0 → Passed x sender bytes
+unfolding deliverRows
+rows-passed x sender bytes buffer e =
+    let r1 = past 0 15 _ _ (omega arith) e in
+    let r2 = past 0 12 _ _ (omega arith) (r1 .1) in
+    let r3 = past 0 1 _ _ (omega arith) (r2 .1) in
+    let r4 = past 0 2 _ _ (omega arith) (r3 .1) in
+    let r5 = past 0 3 _ _ (omega arith) (r4 .1) in
+    let r6 = past 0 4 _ _ (omega arith) (r5 .1) in
+    let r7 = past 0 5 _ _ (omega arith) (r6 .1) in
+    let r8 = past 0 6 _ _ (omega arith) (r7 .1) in
+    let r9 = past 0 7 _ _ (omega arith) (r8 .1) in
+    let r10 = past 0 8 _ _ (omega arith) (r9 .1) in
+    let r11 = past 0 9 _ _ (omega arith) (r10 .1) in
+    record {
+      within = box-place (x .setup) sender (r3 .0);
+      tag = (formed (x .setup .k) bytes (r4 .0) .low, formed (x .setup .k) bytes (r4 .0) .high);
+      commanded = r7 .0;
+      unrecovered = r8 .0;
+      unheard = r9 .0;
+      passes = r10 .0;
+      exponents = not-false _ (r11 .0);
+    }
+
+-- the sender of a refused delivery, where it is marked heard
+refused-box : (v : ℕ) (x : Record) (sender : ℕ) (bytes buffer : List ℕ) → 8 ≤ v → v ≤ 10 → firstOf (deliverRows x sender bytes buffer) ≡ v → sender - 1 < x .setup .n
+unfolding deliverRows
+refused-box v x sender bytes buffer a b e =
+    let r1 = past v 15 _ _ (omega arith) e in
+    let r2 = past v 12 _ _ (omega arith) (r1 .1) in
+    box-place (x .setup) sender (past v 1 _ _ (omega arith) (r2 .1) .0)
+
+eight-to-ten : (n : ℕ) → eqb n 8 or eqb n 9 or eqb n 10 ≡ true → (8 ≤ n) × (n ≤ 10)
+eight-to-ten n e =
+    ⊎-elim
+    (λ h. let q = eqb-true n 8 h in omega arith)
+    (λ h. ⊎-elim (λ h. let q = eqb-true n 9 h in omega arith) (λ h. let q = eqb-true n 10 h in omega arith) (or-cases (eqb n 9) (eqb n 10) h))
+    (or-cases (eqb n 8) _ e)
+
+refusal-good : (n : ℕ) (x : Record) (sender : ℕ) (bytes : List ℕ) → Good x → (8 ≤ n → n ≤ 10 → sender - 1 < x .setup .n) → Good (refusalHeard n x sender bytes)
+unfolding refusalHeard hasMatrix
+refusal-good n x sender bytes g h =
+    pick-either Good ((eqb n 8 or eqb n 9 or eqb n 10) and leb (tagIn bytes) 3) (heard x (tagIn bytes) (sender - 1)) x
+    (λ e.
+    let w = eight-to-ten n (and-left _ _ e) in
+    let t = leb-true (tagIn bytes) 3 (and-right (eqb n 8 or eqb n 9 or eqb n 10) _ e) in
+    heard-good x (tagIn bytes) (sender - 1) g (omega arith) (h (w .0) (w .1)))
+    (λ e. g)
+
+module _ (x : Record) (sender : ℕ) (bytes : List ℕ) (h : sound x ≡ true) (g : Good x) (c : Passed x sender bytes) where
+  TakenGood : Message → Type 0
+  TakenGood msg = exponentsKeep (groupIn x .q) (x .setup .k) msg ≡ true → Good (messageStep x (sender - 1) msg .after)
+
+  unheard-for : (t : ℕ) → eqb (tagIn bytes) t ≡ true → heardFor x t (sender - 1) ≡ false
+  unheard-for t e = rw (eqb-true (tagIn bytes) t e) at (c .unheard)
+
+  passes-for : (t : ℕ) → eqb (tagIn bytes) t ≡ true → t ≤ 3 → matrixPasses (groupIn x) (x .setup .k) (matrixIn (x .setup .k) bytes) ≡ true
+  unfolding hasMatrix
+  passes-for t e l = not-false _ (and-rest _ _ (c .passes) (le-leb (tagIn bytes) 3 (let q = eqb-true (tagIn bytes) t e in omega arith)))
+
+  is-recovery : eqb (tagIn bytes) 1 ≡ false → eqb (tagIn bytes) 2 ≡ false → eqb (tagIn bytes) 3 ≡ false → eqb (tagIn bytes) 4 ≡ true
+  is-recovery a b d =
+      let p = eqb-false (tagIn bytes) 1 a in
+      let q = eqb-false (tagIn bytes) 2 b in
+      let r = eqb-false (tagIn bytes) 3 d in
+      let w = c .tag in
+      eq-eqb (tagIn bytes) 4 (omega arith)
+
+  message-good : Good (messageStep x (sender - 1) (messageIn (x .setup .k) bytes) .after)
+  unfolding messageIn sendStep TakenGood
+  message-good =
+      pick-either TakenGood (eqb (tagIn bytes) 1) (send (matrixIn (x .setup .k) bytes) (polynomialsIn (x .setup .k) bytes)) _
+      (λ e below. heard-good x 1 (sender - 1) g (omega arith) (c .within))
+      (λ e1. pick-either TakenGood (eqb (tagIn bytes) 2) (echo (matrixIn (x .setup .k) bytes) (fourIn (x .setup .k) bytes)) _
+      (λ e below. echo-good x (sender - 1) h g (c .within) _ _ (matrix-fits (x .setup) bytes (passes-for 2 e (omega arith))) below (unheard-for 2 e))
+      (λ e2. pick-either TakenGood (eqb (tagIn bytes) 3) (ready (matrixIn (x .setup .k) bytes) (fourIn (x .setup .k) bytes)) (recovery (pairIn bytes))
+      (λ e below. ready-good x (sender - 1) h g (c .within) _ _ (matrix-fits (x .setup) bytes (passes-for 3 e (omega arith))) below (unheard-for 3 e))
+      (λ e3 below.
+      let e = is-recovery e1 e2 e3 in
+      recovery-good x (sender - 1) h g (c .within) (pairIn bytes) below (unheard-for 4 e)
+      (and-right (isDone (x .progress .completion)) _ (not-false _ (and-rest _ _ (c .commanded) e)))
+      (and-rest _ _ (c .unrecovered) e))))
+      (c .exponents)
+
+-- The record after a delivery is sound.
+pub deliver-kept : (x : Record) (sender : ℕ) (bytes buffer : List ℕ) → sound x ≡ true → Shaped x
+    → (sound (deliver x sender bytes buffer .outcome .next) ≡ true) × Shaped (deliver x sender bytes buffer .outcome .next)
+unfolding deliver
+deliver-kept x sender bytes buffer h shape =
+    let g = good-of x h shape in
+    sound-of _ (answered-good (firstOf (deliverRows x sender bytes buffer)) (messageStep x (sender - 1) (messageIn (x .setup .k) bytes)) _ buffer
+    (λ e. message-good x sender bytes h g (rows-passed x sender bytes buffer e))
+    (λ e. refusal-good (firstOf (deliverRows x sender bytes buffer)) x sender bytes g (λ a b. refused-box _ x sender bytes buffer a b refl)))
