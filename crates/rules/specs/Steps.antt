@@ -35,7 +35,7 @@ use Rattle.rules.specs.Numbers.{exponent, echoQuorum}
 use Rattle.rules.specs.Matrices.{α, α′, β, β′}
 use Rattle.rules.specs.Messages.{Message, send, echo, ready, recovery, toEach}
 use Rattle.rules.specs.Dealing.{valueAt, fOf, f′Of, commitment, polynomialsOf}
-use Rattle.rules.specs.Record.{noMarks, groupIn, slotAt, placeAt, shareAt, isDone, matrixOf, sameMatrix, sharesKept, zeroSlot, countE, countR}
+use Rattle.rules.specs.Record.{silent, noMarks, groupIn, slotAt, placeAt, shareAt, isDone, matrixOf, sameMatrix, sharesKept, zeroSlot, countE, countR}
 
 -- ---- one part of the record anew
 
@@ -65,13 +65,13 @@ pub record Said (A : Type 0) : Type 0 where
   pub box : ℕ
   pub says : A
 
--- the points of a slot, lowest box first: a silent place adds none
+-- the points that places hold, lowest box first: a silent place adds none
 abbrev pub pointAt : ℕ → Point → List (Said Four)
 pointAt m Silent = []
 pointAt m (Held f) = record { box = m + 1; says = f } ∷ []
 
-unfoldable pub points : Slot → List (Said Four)
-points slot = gather 10 (λ m. pointAt m (placeAt slot m .point))
+unfoldable pub points : List Place → List (Said Four)
+points places = gather 10 (λ m. pointAt m (getD places m silent .point))
 
 -- the recovery shares kept, lowest box first
 abbrev pub keptAt : ℕ → Kept → List (Said Pair)
@@ -216,7 +216,7 @@ readySent x s slot ps =
 
 -- "Interpolation uses the k lowest-numbered senders held"
 abbrev pub lowest : Record → Slot → List (Said Four)
-lowest x slot = take (x .setup .k) (points slot)
+lowest x slot = take (x .setup .k) (points (slot .places))
 
 -- "Echo, checked: its count e for this C goes up by one. If now e = E and r < k, interpolate and send ready."
 unfoldable pub echoAt : Record → ℕ → Slot → Step
