@@ -2,11 +2,12 @@
 --
 -- In order: two numbers with one remainder (`same-mod` the way in, `mod-same` the way out); inner remainders go (`mods`);
 -- sums and products of numbers with one remainder, and with zero or one; differences; `Prime`, and that the test finds it;
--- the inverse, and that a product modulo a prime is zero only where a factor is; the field that the residues form.
+-- the inverse, and that a product modulo a prime is zero only where a factor is; the field that the residues form; the
+-- inverse's steps, as code takes them.
 -- Not here: `mod-add-mod`, `add-mod-mod`, `mod-mod`, `mod-lt`, `mod-eq-of-lt` (`native.Mathlib.Nat`).
 -- Assumes nothing.
 use mathlib.Core.Path.{_≡_, refl, sym, ap, ap₂, _∙_}
-use mathlib.Core.Logic.{_≢_}
+use mathlib.Core.Logic.{_≢_, ⊎-elim}
 use mathlib.Core.Bool.{Bool, true, false, not}
 use Prim.Native.Nat.{ℕ, zero, suc, _+_, _*_, _-_, _/_, _%_, _≤_, _<_}
 use native.Mathlib.Nat
@@ -33,8 +34,8 @@ use native.Mathlib.Nat.{
 }
 use native.Mathlib.Omega.{arith}
 use lib.Dec.{ltb, eqb}
-use borrow.Author.Tests.{ltb-true, ltb-false, eqb-false, not-true}
-use Rattle.folds.specs.Tests.{_and_, pick, and-left, and-right}
+use borrow.Author.Tests.{ltb-true, ltb-false, lt-ltb, le-ltb, eqb-false, not-true}
+use Rattle.folds.specs.Tests.{_and_, pick, decide, and-left, and-right}
 use Rattle.folds.specs.Below.{allBelow, allBelow-at}
 
 -- q is above 1, and no number from 2 to q - 1 divides it
@@ -215,3 +216,45 @@ residue-field q P =
       one-some = λ e. let one : 1 % q ≡ 1 = mod-eq-of-lt (P .big) in omega arith;
       mul-inverse = λ x n l. mul-mod-mod x (inverse q x) q ∙ inverse-right q P x (omega arith) l;
     }
+
+-- ---- the steps of the inverse
+
+module _ (q : ℕ) where
+  -- up to 1 nothing is left to do
+  inverseBy-small : (f x : ℕ) → x ≤ 1 → inverseBy q f x ≡ 1
+  unfolding inverseBy
+  inverseBy-small zero x l = refl
+  inverseBy-small (suc f) x l = rw (le-ltb 1 x l)
+
+  inverseBy-step : (f x : ℕ) → 1 < x → inverseBy q (suc f) x ≡ (q - q / x) * inverseBy q f (q % x) % q
+  unfolding inverseBy
+  inverseBy-step f x l = rw (lt-ltb 1 x l)
+
+  -- any two amounts of fuel that last are alike
+  inverseBy-fuel : (f g x : ℕ) → x ≤ f → x ≤ g → inverseBy q f x ≡ inverseBy q g x
+  inverseBy-fuel zero g x l m = inverseBy-small 0 x (omega arith) ∙ sym (inverseBy-small g x (omega arith))
+  inverseBy-fuel (suc f) zero x l m = inverseBy-small (suc f) x (omega arith) ∙ sym (inverseBy-small 0 x (omega arith))
+  inverseBy-fuel (suc f) (suc g) x l m =
+      ⊎-elim
+      (λ t.
+      let big = ltb-true 1 x t in
+      let less : q % x < x = mod-lt q (omega arith) in
+      inverseBy-step f x big
+      ∙ ap (λ t. (q - q / x) * t % q) (inverseBy-fuel f g (q % x) (omega arith) (omega arith))
+      ∙ sym (inverseBy-step g x big))
+      (λ t. let small = ltb-false 1 x t in inverseBy-small (suc f) x small ∙ sym (inverseBy-small (suc g) x small))
+      (decide (ltb 1 x))
+
+  -- Up to 1 the inverse is 1.
+  pub inverse-small : (x : ℕ) → x ≤ 1 → inverse q x ≡ 1
+  unfolding inverse
+  inverse-small x l = inverseBy-small x x l
+
+  -- Above 1 the inverse of x is made of the inverse of q % x.
+  pub inverse-step : (x : ℕ) → 1 < x → inverse q x ≡ (q - q / x) * inverse q (q % x) % q
+  unfolding inverse
+  inverse-step x l =
+      let less : q % x < x = mod-lt q (omega arith) in
+      inverseBy-fuel x (suc x) x (omega arith) (omega arith)
+      ∙ inverseBy-step x x l
+      ∙ ap (λ t. (q - q / x) * t % q) (inverseBy-fuel x (q % x) (q % x) (omega arith) (omega arith))

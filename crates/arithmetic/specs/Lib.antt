@@ -1,0 +1,2 @@
+-- The answer to a group number.
+pub mod Rows
