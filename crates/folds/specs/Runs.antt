@@ -1,17 +1,22 @@
 -- Runs of bytes one behind the other (`gather`), and runs of stores (`sets` of `lib.Seq`: l with vs stored from index i).
 --
 -- In order: the definition; stores behind stores; stores in a lent tail, said of the whole; a loop that writes one run after the other;
--- where a run stands in another (`Stands`); what holds of every element (`Every`).
+-- where a run stands in another (`Stands`); what holds of every element (`Every`); the first k of one more element.
 -- Assumes nothing.
 use Prim.Native.Nat.{ℕ, zero, suc, _+_, _-_, _*_, _<_, _≤_, suc-le-suc}
 use native.Mathlib.Nat.{le-refl, add-zero, add-suc, zero-mul, suc-mul, not-suc-le-zero, le-of-suc-le-suc, eq-or-lt-of-le}
 use native.Mathlib.Numerals.{add-one}
 use native.Mathlib.Omega.{arith}
+use mathlib.Core.Bool.{Bool, true, false}
 use mathlib.Core.Logic.{⊎-elim}
 use mathlib.Core.Path.{_≡_, refl, sym, ap, ap₂, subst, _∙_}
 use mathlib.Core.List.{List, [], _∷_, _++_, append-assoc, append-nil}
-use lib.ListN.{length, set, getD, take, drop, length-append, length-drop, take-append-drop, drop-of-length-le}
-use lib.Seq.{take-all, sets, sets-eq, drop-set-add, take-set-le, drop-drop, drop-at, drop-cons, getD-drop}
+use lib.Dec.{leb}
+use lib.ListN.{length, set, getD, take, drop, length-append, length-take, length-drop, take-append-drop, drop-of-length-le}
+use lib.Seq.{take-all, take-append-le, getD-take, sets, sets-eq, drop-set-add, take-set-le, drop-drop, drop-at, drop-cons, getD-drop}
+use borrow.Author.Tests.{leb-true, leb-false}
+use Rattle.folds.specs.Tests.{pick}
+use Rattle.folds.specs.Below.{countBelow}
 
 -- f 0, f 1, .. f (n - 1), one behind the other
 unfoldable pub gather : {A : Type 0} → ℕ → (ℕ → List A) → List A
@@ -78,6 +83,12 @@ module _ {A : Type 0} where
     length-gather-le w h zero = omega arith
     length-gather-le w h (suc n) =
         rw length-append (omega (arith, length-gather-le w h n, h n, suc-mul n w))
+
+    -- where each piece has one element or none, the length is how many have one
+    pub length-gather-count : (p : ℕ → Bool) → ((i : ℕ) → length (f i) ≡ pick (p i) 1 0) → (n : ℕ) → length (gather n f) ≡ countBelow n p
+    unfolding gather countBelow
+    length-gather-count p h zero = refl
+    length-gather-count p h (suc n) = length-append (gather n f) (f n) ∙ ap₂ _+_ (length-gather-count p h n) (h n)
 
     pub length-gather-more : (i : ℕ) → length (gather (i + 1) f) ≡ length (gather i f) + length (f i)
     length-gather-more i = ap length (gather-more i) ∙ length-append (gather i f) (f i)
@@ -191,3 +202,31 @@ module _ {A : Type 0} (P : A → Type 0) (d : A) where
   unfolding gather
   every-gather f h zero = every-nil
   every-gather f h (suc n) = every-append (gather n f) (f n) (every-gather f h n) (h n)
+
+  pub every-gather-below : (f : ℕ → List A) (n : ℕ) → ((i : ℕ) → i < n → Every P d (f i)) → Every P d (gather n f)
+  unfolding gather
+  every-gather-below f zero h = every-nil
+  every-gather-below f (suc n) h = every-append (gather n f) (f n) (every-gather-below f n (λ i l. h i (omega arith))) (h n (omega arith))
+
+  pub every-take : (k : ℕ) (l : List A) → Every P d l → Every P d (take k l)
+  every-take k l h i lt =
+      let e = length-take k l in
+      let a : i < k = omega arith in
+      let b : i < length l = omega arith in
+      rw (getD-take k l i d a) (h i b)
+
+-- the first k of one more element: it counts where there are fewer than k
+module _ {A : Type 0} (k : ℕ) (l : List A) where
+  pub take-more : (x : A) → take k (l ++ x ∷ []) ≡ pick (leb k (length (take k l))) (take k l) (take k l ++ x ∷ [])
+  take-more x = go (leb k (length (take k l))) refl
+    where
+      go : (b : Bool) → leb k (length (take k l)) ≡ b → take k (l ++ x ∷ []) ≡ pick b (take k l) (take k l ++ x ∷ [])
+      go true e =
+          let h = leb-true k _ e in
+          let m = length-take k l in
+          take-append-le k l (x ∷ []) (omega arith)
+      go false e =
+          let h = leb-false k _ e in
+          let m = length-take k l in
+          let n = length-append l (x ∷ []) in
+          take-all k (l ++ x ∷ []) (omega arith) ∙ ap (λ (t : List A). t ++ x ∷ []) (sym (take-all k l (omega arith)))

@@ -1,7 +1,7 @@
 -- Arrays filled from the front: `stores n f l` is l with f 0, f 1, .. f (n - 1) stored one after the other.
 --
--- In order: the definition; what a loop that fills an array uses (`-zero`, `-more`); its length; what stands at each index;
--- what one store leaves true of each index.
+-- In order: the definition; what a loop that fills an array uses (`-zero`, `-more`, `-turn`, `-left`); its length; what stands at
+-- each index; what one store leaves true of each index; an array filled from a list, and one more element of the list.
 -- Assumes nothing.
 use Prim.Native.Nat.{ℕ, zero, suc, _+_, _<_, _≤_}
 use native.Mathlib.Nat.{le-of-suc-le-suc, not-suc-le-zero, eq-or-lt-of-le, lt-irrefl}
@@ -10,8 +10,8 @@ use native.Mathlib.Numerals.{add-one}
 use native.Mathlib.Omega.{arith}
 use mathlib.Core.Logic.{⊎-elim}
 use mathlib.Core.Path.{_≡_, refl, sym, ap, ap₂, subst, _∙_}
-use mathlib.Core.List.{List}
-use lib.ListN.{length, set, getD, length-set}
+use mathlib.Core.List.{List, [], _∷_, _++_, map}
+use lib.ListN.{length, set, getD, length-set, length-append}
 use lib.Seq.{getD-set-same, getD-set-other, ext-getD}
 
 unfoldable pub stores : {A : Type 0} → ℕ → (ℕ → A) → List A → List A
@@ -26,6 +26,14 @@ module _ {A : Type 0} (f : ℕ → A) (l : List A) where
   pub stores-more : (i : ℕ) → stores (i + 1) f l ≡ set (stores i f l) i (f i)
   unfolding stores
   stores-more i = rw (add-one i)
+
+  -- a turn: the next one is stored
+  pub stores-turn : (i : ℕ) {made : List A} {x : A} → made ≡ stores i f l → x ≡ f i → set made i x ≡ stores (i + 1) f l
+  stores-turn i e h = ap₂ (λ (t : List A) (y : A). set t i y) e h ∙ sym (stores-more i)
+
+  -- the loop is left
+  pub stores-left : (i k : ℕ) {made : List A} → i ≤ k → k ≤ i → made ≡ stores i f l → made ≡ stores k f l
+  stores-left i k a b e = let q : i ≡ k = omega arith in rw q at e
 
   pub length-stores : (n : ℕ) → length (stores n f l) ≡ length l
   unfolding stores
@@ -68,3 +76,30 @@ set-each P l s v d g own others r = go (ℕ-discrete r s)
     go : Dec (r ≡ s) → P r (getD (set l s v) r d)
     go (yes e) = rw (e, getD-set-same l s v d g) own
     go (no n) = rw (getD-set-other l s r v d n) (others r n)
+
+-- an array filled from a list: one more element is one more store
+module _ {A B : Type 0} (f : A → B) (d : B) where
+  getD-map-front : (l r : List A) (i : ℕ) → i < length l → getD (map f (l ++ r)) i d ≡ getD (map f l) i d
+  getD-map-front [] r i h = absurd (not-suc-le-zero h)
+  getD-map-front (x ∷ l) r zero h = refl
+  getD-map-front (x ∷ l) r (suc i) h = getD-map-front l r i (le-of-suc-le-suc h)
+
+  getD-map-seam : (l : List A) (x : A) → getD (map f (l ++ x ∷ [])) (length l) d ≡ f x
+  getD-map-seam [] x = refl
+  getD-map-seam (y ∷ l) x = getD-map-seam l x
+
+  pub stores-list-more : (a : List B) (l : List A) (x : A)
+      → stores (length (l ++ x ∷ [])) (λ i. getD (map f (l ++ x ∷ [])) i d) a ≡ set (stores (length l) (λ i. getD (map f l) i d) a) (length l) (f x)
+  stores-list-more a l x =
+      let all : ℕ → B = λ i. getD (map f (l ++ x ∷ [])) i d in
+      ap (λ (n : ℕ). stores n all a) (length-append l (x ∷ []))
+      ∙ stores-more all a (length l)
+      ∙ ap₂ (λ (t : List B) (y : B). set t (length l) y)
+      (stores-same all a (λ i. getD (map f l) i d) (length l) (λ i h. getD-map-front l (x ∷ []) i h))
+      (getD-map-seam l x)
+
+-- a part of what stands at an index
+pub getD-map-part : {A B C : Type 0} (f : A → B) (g : B → C) (d : B) (l : List A) (i : ℕ) → g (getD (map f l) i d) ≡ getD (map (λ a. g (f a)) l) i (g d)
+getD-map-part f g d [] i = refl
+getD-map-part f g d (x ∷ l) zero = refl
+getD-map-part f g d (x ∷ l) (suc i) = getD-map-part f g d l i

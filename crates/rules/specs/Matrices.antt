@@ -2,7 +2,7 @@
 -- is read out of a matrix, a polynomial, a point.
 -- Assumes nothing.
 use mathlib.Core.List.{List, []}
-use Prim.Native.Nat.{ℕ}
+use Prim.Native.Nat.{ℕ, _+_}
 use lib.ListN.{getD, replicate}
 use Rattle.folds.specs.Stores.{stores}
 use Rattle.rules.specs.declared.Exponent.{Exponent}
@@ -41,3 +41,10 @@ abbrev pub β : Four → ℕ
 
 abbrev pub β′ : Four → ℕ
 β′ f = f .beta2 .0
+
+abbrev pub zeroFour : Four
+zeroFour = record { alpha = exponent 0; alpha2 = exponent 0; beta = exponent 0; beta2 = exponent 0 }
+
+-- ten places, of which the first n hold what goes to boxes 1 to n
+unfoldable pub toBoxes : {A : Type 0} → ℕ → A → (ℕ → A) → List A
+toBoxes n zero f = stores n (λ j. f (j + 1)) (replicate 10 zero)

@@ -1,0 +1,34 @@
+-- `coin` is the number that stands at a place of the secret and the coins behind it. Assumes nothing.
+use mathlib.Core.Path.{_≡_, refl, sym, ap}
+use mathlib.Core.List.{List, _∷_}
+use mathlib.Core.Logic.{_≢_}
+use Prim.Native.Nat.{ℕ, zero, suc, _-_}
+use native.Mathlib.Omega.{arith}
+use lib.ListN.{getD}
+use borrow.Author.Needs.{needs}
+use Rattle.rules.specs.Numbers.{exponent}
+use Rattle.dealing.proofs.coin.Statement.{statement}
+use Rattle.dealing.proofs.coin.Tie as tie
+
+-- what stands behind the first one
+behind : {A : Type 0} (x : A) (xs : List A) (d : A) (i : ℕ) → i ≢ 0 → getD (x ∷ xs) i d ≡ getD xs (i - 1) d
+behind x xs d zero h = absurd (h refl)
+behind x xs d (suc i) h = let before : suc i - 1 ≡ i = omega arith in rw before
+
+returns : tie.Need-returns
+returns c = rw (c .if1 .taken)
+
+sub-t5 : tie.Need-sub-t5
+sub-t5 c = search needs
+
+mul-t6 : tie.Need-mul-t6
+mul-t6 c = search needs
+
+shared-slice-read-t8 : tie.Need-shared-slice-read-t8
+shared-slice-read-t8 c = search needs
+
+returns-2 : tie.Need-returns-2
+returns-2 c = ap exponent (sym (behind _ (c .before .before .args .coins .now) 0 _ (c .before .if1 .left)))
+
+pub coin-spec : {M : Type 1} → statement M
+coin-spec = tie.close (tie.spec returns sub-t5 mul-t6 shared-slice-read-t8 returns-2)

@@ -1,0 +1,287 @@
+// Dealing: from the secret and the coins to the coefficients of f and f', the commitment C and each box's polynomials; and the
+// values of polynomials. Matrices are 8 by 8 and go by value; the first k rows and columns are in use, the rest is zero.
+use rules::Element;
+use rules::Exponent;
+use rules::Four;
+use rules::Group;
+use rules::Polynomials;
+ghost use mathlib.Core.Path.{_≡_};
+ghost use mathlib.Core.List.{_∷_};
+ghost use Prim.Native.Nat.{_+_, _*_, _≤_, _<_};
+ghost use lib.ListN.{length, getD};
+ghost use Rattle.rules.specs.Numbers.{exponent, element};
+ghost use Rattle.rules.specs.Matrices.{row, coefficient, coefficient₂, toBoxes, zeroFour};
+ghost use Rattle.rules.specs.Dealing.{fromCoins, coinsKeep, committed, commitment, valueAt, alongX, alongY, polynomialsOf};
+ghost use Rattle.rules.specs.Steps.{echoFour};
+ghost use Rattle.dealing.specs.Rows.{coinsBelow, coinRow, commitRow, columnOf, zeroPolynomials};
+
+// ---- the coins
+
+fn coins_below(q: u16, coins: &[u16]) -> bool
+    ensures { λ r. ⌜ r ≡ coinsBelow q (now (coins .entry)) ⌝ }
+{
+    let mut c: usize = 0;
+    while c < coins.len() {
+        if q <= coins[c] {
+            return false;
+        }
+        c += 1;
+    }
+    true
+}
+
+// Refusal 14 does not hold.
+pub fn coins_keep(q: u16, k: usize, secret: u32, coins: &[u16]) -> bool
+    requires { ⌜ (1 ≤ k) × (k ≤ 8) ⌝ }
+    ensures { λ r. ⌜ r ≡ coinsKeep q k secret (now (coins .entry)) ⌝ }
+{
+    if q as u32 <= secret {
+        return false;
+    }
+    if coins.len() != 2 * (k * k) - 1 {
+        return false;
+    }
+    coins_below(q, coins)
+}
+
+// The secret stands before the coins.
+fn coin(secret: u16, coins: &[u16], at: usize) -> Exponent
+    requires { ⌜ at ≤ length (now coins) ⌝ }
+    ensures { λ r. ⌜ r ≡ exponent (getD (secret ∷ now (coins .entry)) at 0) ⌝ }
+{
+    if at == 0 {
+        return Exponent(secret);
+    }
+    Exponent(coins[at - 1])
+}
+
+fn coin_row(k: usize, secret: u16, coins: &[u16], from: usize) -> [Exponent; 8]
+    requires { ⌜ (k ≤ 8) × (from + k ≤ length (now coins) + 1) ⌝ }
+    ensures { λ r. ⌜ r ≡ coinRow k secret (now (coins .entry)) from ⌝ }
+{
+    let mut made = [Exponent(0); 8];
+    let mut l: usize = 0;
+    while l < k {
+        let x = coin(secret, coins, from + l);
+        made[l] = x;
+        l += 1;
+    }
+    made
+}
+
+// f from 0 on, f' from k² on.
+pub fn from_coins(k: usize, secret: u16, coins: &[u16], from: usize) -> [[Exponent; 8]; 8]
+    requires { ⌜ (k ≤ 8) × (from + k * k ≤ length (now coins) + 1) ⌝ }
+    ensures { λ r. ⌜ r ≡ fromCoins k secret (now (coins .entry)) from ⌝ }
+{
+    let zeros = [Exponent(0); 8];
+    let mut made = [zeros; 8];
+    let mut j: usize = 0;
+    while j < k {
+        let x = coin_row(k, secret, coins, from + j * k);
+        made[j] = x;
+        j += 1;
+    }
+    made
+}
+
+// ---- the commitment
+
+fn commit_row(group: Group, k: usize, f: [Exponent; 8], f2: [Exponent; 8]) -> [Element; 8]
+    requires { ⌜ (0 < group .p) × (k ≤ 8) ⌝ }
+    ensures { λ r. ⌜ r ≡ commitRow group k f f2 ⌝ }
+{
+    let mut made = [Element(0); 8];
+    let mut l: usize = 0;
+    while l < k {
+        let x = f[l];
+        let y = f2[l];
+        let e = arithmetic::commit(group, x, y);
+        made[l] = e;
+        l += 1;
+    }
+    made
+}
+
+pub fn commit_all(
+    group: Group,
+    k: usize,
+    f: [[Exponent; 8]; 8],
+    f2: [[Exponent; 8]; 8],
+) -> [[Element; 8]; 8]
+    requires { ⌜ (0 < group .p) × (k ≤ 8) ⌝ }
+    ensures { λ r. ⌜ r ≡ commitment group k f f2 ⌝ }
+{
+    let zeros = [Element(0); 8];
+    let mut made = [zeros; 8];
+    let mut j: usize = 0;
+    while j < k {
+        let x = f[j];
+        let y = f2[j];
+        let e = commit_row(group, k, x, y);
+        made[j] = e;
+        j += 1;
+    }
+    made
+}
+
+// ---- polynomials
+
+// a(x), for the coefficients of a.
+pub fn value_at(q: u16, k: usize, a: [Exponent; 8], x: u16) -> Exponent
+    requires { ⌜ (0 < q) × (k ≤ 8) ⌝ }
+    ensures { λ r. ⌜ r ≡ exponent (valueAt q k a x) ⌝ }
+{
+    let mut sum = Exponent(0);
+    let mut power = Exponent(1 % q);
+    let mut l: usize = 0;
+    while l < k {
+        let c = a[l];
+        let term = arithmetic::product(q, c, power);
+        sum = arithmetic::sum(q, sum, term);
+        power = arithmetic::product(q, power, Exponent(x));
+        l += 1;
+    }
+    sum
+}
+
+fn column(k: usize, f: [[Exponent; 8]; 8], l: usize) -> [Exponent; 8]
+    requires { ⌜ (k ≤ 8) × (l < 8) ⌝ }
+    ensures { λ r. ⌜ r ≡ columnOf k f l ⌝ }
+{
+    let mut made = [Exponent(0); 8];
+    let mut j: usize = 0;
+    while j < k {
+        let line = f[j];
+        let x = line[l];
+        made[j] = x;
+        j += 1;
+    }
+    made
+}
+
+fn along_y(q: u16, k: usize, f: [[Exponent; 8]; 8], i: u16) -> [Exponent; 8]
+    requires { ⌜ (0 < q) × (k ≤ 8) ⌝ }
+    ensures { λ r. ⌜ r ≡ alongY q k f i ⌝ }
+{
+    let mut made = [Exponent(0); 8];
+    let mut l: usize = 0;
+    while l < k {
+        let line = column(k, f, l);
+        let x = value_at(q, k, line, i);
+        made[l] = x;
+        l += 1;
+    }
+    made
+}
+
+fn along_x(q: u16, k: usize, f: [[Exponent; 8]; 8], i: u16) -> [Exponent; 8]
+    requires { ⌜ (0 < q) × (k ≤ 8) ⌝ }
+    ensures { λ r. ⌜ r ≡ alongX q k f i ⌝ }
+{
+    let mut made = [Exponent(0); 8];
+    let mut j: usize = 0;
+    while j < k {
+        let line = f[j];
+        let x = value_at(q, k, line, i);
+        made[j] = x;
+        j += 1;
+    }
+    made
+}
+
+// What box i gets.
+pub fn polynomials_for(
+    q: u16,
+    k: usize,
+    f: [[Exponent; 8]; 8],
+    f2: [[Exponent; 8]; 8],
+    i: u16,
+) -> Polynomials
+    requires { ⌜ (0 < q) × (k ≤ 8) ⌝ }
+    ensures { λ r. ⌜ r ≡ polynomialsOf q k f f2 i ⌝ }
+{
+    let a = along_y(q, k, f, i);
+    let a2 = along_y(q, k, f2, i);
+    let b = along_x(q, k, f, i);
+    let b2 = along_x(q, k, f2, i);
+    Polynomials { a, a2, b, b2 }
+}
+
+fn zero_polynomials() -> Polynomials
+    ensures { λ r. ⌜ r ≡ zeroPolynomials ⌝ }
+{
+    Polynomials {
+        a: [Exponent(0); 8],
+        a2: [Exponent(0); 8],
+        b: [Exponent(0); 8],
+        b2: [Exponent(0); 8],
+    }
+}
+
+// What boxes 1 to n get; box 1's stands at 0.
+pub fn polynomials_for_all(
+    q: u16,
+    k: usize,
+    n: usize,
+    f: [[Exponent; 8]; 8],
+    f2: [[Exponent; 8]; 8],
+) -> [Polynomials; 10]
+    requires { ⌜ (0 < q) × (k ≤ 8) × (n ≤ 10) ⌝ }
+    ensures { λ r. ⌜ r ≡ toBoxes n zeroPolynomials (polynomialsOf q k f f2) ⌝ }
+{
+    let zero = zero_polynomials();
+    let mut made = [zero; 10];
+    let mut j: usize = 0;
+    let mut i: u16 = 1;
+    while j < n {
+        let x = polynomials_for(q, k, f, f2, i);
+        made[j] = x;
+        j += 1;
+        i += 1;
+    }
+    made
+}
+
+// What an echo takes to box j: a(j), a'(j), b(j), b'(j).
+fn echo_four(q: u16, k: usize, all: Polynomials, j: u16) -> Four
+    requires { ⌜ (0 < q) × (k ≤ 8) ⌝ }
+    ensures { λ r. ⌜ r ≡ echoFour q k all j ⌝ }
+{
+    let a = all.a;
+    let a2 = all.a2;
+    let b = all.b;
+    let b2 = all.b2;
+    let alpha = value_at(q, k, a, j);
+    let alpha2 = value_at(q, k, a2, j);
+    let beta = value_at(q, k, b, j);
+    let beta2 = value_at(q, k, b2, j);
+    Four {
+        alpha,
+        alpha2,
+        beta,
+        beta2,
+    }
+}
+
+pub fn echo_fours(q: u16, k: usize, n: usize, all: Polynomials) -> [Four; 10]
+    requires { ⌜ (0 < q) × (k ≤ 8) × (n ≤ 10) ⌝ }
+    ensures { λ r. ⌜ r ≡ toBoxes n zeroFour (echoFour q k all) ⌝ }
+{
+    let zero = Four {
+        alpha: Exponent(0),
+        alpha2: Exponent(0),
+        beta: Exponent(0),
+        beta2: Exponent(0),
+    };
+    let mut made = [zero; 10];
+    let mut j: usize = 0;
+    let mut i: u16 = 1;
+    while j < n {
+        let x = echo_four(q, k, all, i);
+        made[j] = x;
+        j += 1;
+        i += 1;
+    }
+    made
+}
