@@ -1,0 +1,2 @@
+-- What only the contracts of this crate name.
+pub mod Anew
