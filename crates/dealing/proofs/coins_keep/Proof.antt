@@ -4,7 +4,7 @@ use borrow.Author.Needs.{needs}
 use borrow.Author.Tests.{eq-eqb, ne-eqb, lt-ltb, le-ltb}
 use Rattle.rules.specs.Dealing.{coinsKeep}
 use Rattle.dealing.specs.Rows.{coinsBelow}
-use Rattle.dealing.proofs.Room.{square-some, square-small}
+use Rattle.rules.specs.Laws.Matrices.{square-some, square-small}
 use Rattle.dealing.proofs.coins_keep.Statement.{statement}
 use Rattle.dealing.proofs.coins_keep.Tie as tie
 

@@ -11,9 +11,8 @@ use Rattle.folds.specs.Stores.{stores, stores-zero, stores-turn, stores-left}
 use Rattle.rules.specs.Numbers.{exponent}
 use Rattle.rules.specs.Matrices.{row, matrix}
 use Rattle.rules.specs.Dealing.{fromCoins}
-use Rattle.rules.specs.Laws.Matrices.{row-same}
+use Rattle.rules.specs.Laws.Matrices.{row-same, row-within}
 use Rattle.dealing.specs.Rows.{coinRow}
-use Rattle.dealing.proofs.Room.{row-within}
 use Rattle.dealing.proofs.from_coins.Statement.{statement}
 use Rattle.dealing.proofs.from_coins.Tie as tie
 
@@ -36,14 +35,14 @@ loop-holds : tie.Need-loop-holds Inv-loop μ-loop
 loop-holds c = (omega arith, sym (stores-zero _ _))
 
 mul-coin-row : tie.Need-mul-coin-row Inv-loop μ-loop
-mul-coin-row c = omega (arith, row-within _ _ _ _ (c .loop-test .taken) (c .before .before .before .pre .1))
+mul-coin-row c = omega (arith, row-within _ _ (c .loop-test .taken), c .before .before .before .pre .1)
 
 add-coin-row : tie.Need-add-coin-row Inv-loop μ-loop
-add-coin-row c = omega (arith, row-within _ _ _ _ (c .loop-test .taken) (c .before .before .before .pre .1))
+add-coin-row c = omega (arith, row-within _ _ (c .loop-test .taken), c .before .before .before .pre .1)
 
 coin-row-requires : tie.Need-coin-row-requires Inv-loop μ-loop
 coin-row-requires c κs =
-    omega (arith, row-within _ _ _ _ (c .loop-test .taken) (c .before .before .before .pre .1))
+    omega (arith, row-within _ _ (c .loop-test .taken), c .before .before .before .pre .1)
 
 mul-made : tie.Need-mul-made Inv-loop μ-loop
 mul-made c = search needs

@@ -1,8 +1,9 @@
--- Rows and matrices: what counts of the function that they are made of, and where it stands.
+-- Rows and matrices: what counts of the function that they are made of, and where it stands; and room for k by k numbers.
 -- Assumes nothing.
 use mathlib.Core.List.{List, []}
 use mathlib.Core.Path.{_≡_, ap, _∙_}
-use Prim.Native.Nat.{ℕ, _<_, _≤_}
+use Prim.Native.Nat.{ℕ, suc, _+_, _*_, _<_, _≤_}
+use native.Mathlib.Nat.{mul-le-mul, mul-le-mul-right}
 use native.Mathlib.Omega.{arith}
 use lib.ListN.{getD, replicate}
 use Rattle.folds.specs.Stores.{stores-same, getD-stores}
@@ -38,3 +39,17 @@ entry-at k f h j l hj hl = ap (λ (x : Element). x .0) (matrix-at k (element 0) 
 
 pub coefficient-at : (k : ℕ) (f : ℕ → ℕ) → k ≤ 8 → (l : ℕ) → l < k → coefficient (row k (exponent 0) (λ n. exponent (f n))) l ≡ f l
 coefficient-at k f h l hl = ap (λ (x : Exponent). x .0) (row-at k (exponent 0) (λ n. exponent (f n)) h l hl)
+
+-- ---- room
+
+pub square-some : (k : ℕ) → 1 ≤ k → 1 ≤ k * k
+square-some k h = mul-le-mul h h
+
+pub square-small : (k : ℕ) → k ≤ 8 → k * k ≤ 64
+square-small k h = mul-le-mul h h
+
+-- row j of k rows is within
+pub row-within : (j k : ℕ) → j < k → j * k + k ≤ k * k
+row-within j k h =
+    let e : suc j * k ≤ k * k = mul-le-mul-right k h in
+    omega arith

@@ -1,0 +1,3 @@
+// Messages as bytes: written at the front of a lent tail, and read.
+pub mod read;
+pub mod write;
