@@ -1,0 +1,33 @@
+-- `passes_in` is the test that a matrix in use would pass refusal 8. Assumes nothing.
+use mathlib.Core.Path.{_≡_, ap, _∙_}
+use mathlib.Core.Bool.{true, false}
+use borrow.Author.Needs.{needs}
+use borrow.Author.Tests.{not-true, not-false}
+use Rattle.rules.specs.Dealing.{matrixPasses}
+use Rattle.rules.specs.Record.{matrixOf}
+use Rattle.slots.specs.Slots.{passesIn}
+use Rattle.slots.proofs.passes_in.Statement.{statement}
+use Rattle.slots.proofs.passes_in.Tie as tie
+
+returns : tie.Need-returns
+unfolding passesIn
+returns c =
+    let unused : c .before .before .args .slot .used ≡ false = not-true _ (c .if1 .taken) in
+    rw unused
+
+matrix-of-requires : tie.Need-matrix-of-requires
+matrix-of-requires c κs = search needs
+
+matrix-passes-requires : tie.Need-matrix-passes-requires
+matrix-passes-requires c κs = search needs
+
+returns-2 : tie.Need-returns-2
+unfolding passesIn matrixOf
+returns-2 c =
+    let a = c .before .before .before .before .before .args in
+    let used : a .slot .used ≡ true = not-false _ (c .before .before .before .if1 .left) in
+    rw used
+    (c .matrix-passes .ensures ∙ ap (matrixPasses (a .group) (a .k)) (c .before .matrix-of .ensures))
+
+pub passes-in-spec : {M : Type 1} → statement M
+passes-in-spec = tie.close (tie.spec returns matrix-of-requires matrix-passes-requires returns-2)
