@@ -1,0 +1,3 @@
+-- A delivery past refusal 7.
+pub mod Late
+pub mod Laws
