@@ -1,2 +1,3 @@
 -- The laws that the proofs of the calls share.
 pub mod Refusals
+pub mod Past

@@ -15,8 +15,9 @@ use rules::Sent;
 use rules::SetUp;
 use rules::Slot;
 ghost use mathlib.Core.Path.{_≡_};
-ghost use Rattle.rules.specs.Record.{zeroSlot, newRecord, zeroRecord};
-ghost use Rattle.rules.specs.Answers.{SetsUp, Deals, Recovers};
+ghost use Prim.Native.Nat.{_≤_, _<_};
+ghost use Rattle.rules.specs.Record.{heardFor, zeroSlot, newRecord, zeroRecord};
+ghost use Rattle.rules.specs.Answers.{SetsUp, Deals, Recovers, Delivers};
 
 fn zero_slot() -> Slot
     ensures { λ r. ⌜ r ≡ zeroSlot ⌝ }
@@ -130,4 +131,61 @@ pub fn command_recovery(x: Record, out: &mut [u8]) -> Outcome
         return steps::take::refuse(x, 13);
     }
     steps::take::take_command(out, x)
+}
+
+// ---- delivery
+
+fn is_heard(x: Record, tag: u8, m: usize) -> bool
+    requires { ⌜ (1 ≤ tag) × (tag ≤ 4) × (m < 10) ⌝ }
+    ensures { λ r. ⌜ r ≡ heardFor x tag m ⌝ }
+{
+    let at = tag as usize - 1;
+    let marks = x.heard[at];
+    marks.at[m]
+}
+
+// Refusals 15, 12, then 1 to 7; 8 to 10 by the kind of message.
+pub fn deliver(x: Record, sender: u32, bytes: &[u8], out: &mut [u8]) -> Outcome
+    ensures { λ o. ⌜ Delivers x sender (now (bytes .entry)) (now (out .entry)) o (now (out .exit)) ⌝ }
+{
+    if out.len() < SetUp::LENT {
+        return steps::take::refuse(x, 15);
+    }
+    if !soundness::is_sound(x) {
+        return steps::take::refuse(x, 12);
+    }
+    let u = x.setup;
+    if !numbers::is_box(u, sender) {
+        return steps::take::refuse(x, 1);
+    }
+    if messages::read::is_malformed(bytes, u.k as usize) {
+        return steps::take::refuse(x, 2);
+    }
+    if messages::read::is_foreign(bytes, u) {
+        return steps::take::refuse(x, 3);
+    }
+    let tag = bytes[0];
+    if tag == 1 && sender != u.d {
+        return steps::take::refuse(x, 4);
+    }
+    let progress = x.progress;
+    let completion = progress.completion;
+    let recovering = slots::is_done(completion) && progress.commanded;
+    if tag == 4 && !recovering {
+        return steps::take::refuse(x, 5);
+    }
+    let recovered = x.recovered;
+    if tag == 4 && slots::is_there(recovered) {
+        return steps::take::refuse(x, 6);
+    }
+    let m = (sender - 1) as usize;
+    if is_heard(x, tag, m) {
+        return steps::take::refuse(x, 7);
+    }
+    match tag {
+        1 => delivery::deliver_send(x, m, bytes, out),
+        2 => delivery::deliver_echo(x, m, bytes, out),
+        3 => delivery::deliver_ready(x, m, bytes, out),
+        _ => delivery::deliver_share(x, m, bytes, out),
+    }
 }
