@@ -6,12 +6,12 @@
 -- Assumes nothing.
 use mathlib.Core.Bool.{Bool, true, false, not}
 use mathlib.Core.List.{List, []}
-use mathlib.Core.Path.{_≡_, refl, sym, ap, _∙_}
+use mathlib.Core.Path.{_≡_, refl, ap, _∙_}
 use Prim.Native.Nat.{ℕ, _+_, _-_, _<_, _≤_}
 use native.Mathlib.Omega.{arith}
 use lib.Dec.{eqb, leb}
 use lib.ListN.{length}
-use borrow.Author.Tests.{not-true, not-false, le-leb}
+use borrow.Author.Tests.{le-leb}
 use Rattle.folds.specs.Tests.{_and_, _or_, and-false, pick-either}
 use Rattle.rules.specs.declared.Element.{Element}
 use Rattle.rules.specs.declared.Four.{Four}
@@ -32,16 +32,8 @@ use Rattle.steps.specs.Takes.{Takes}
 use Rattle.steps.specs.Laws.{place-of}
 use Rattle.delivery.specs.Late.{lateRows, late, Late}
 
--- ---- what a test gave
+-- ---- what a test gave of the things that were read
 
--- as the branch on its opposite found it
-pub failed : {r b : Bool} → r ≡ b → not r ≡ true → b ≡ false
-failed {r} e h = sym e ∙ not-true r h
-
-pub passed : {r b : Bool} → r ≡ b → not r ≡ false → b ≡ true
-passed {r} e h = sym e ∙ not-false r h
-
--- of the things that were read
 module _ (k i : ℕ) {G H : Group} {C D : List (List Element)} {r : Bool} (group : G ≡ H) (matrix : C ≡ D) where
   pub point-tested : (m : ℕ) {f g : Four} → f ≡ g → r ≡ pointCheck G k C i m f → r ≡ pointCheck H k D i m g
   point-tested m four e = cc

@@ -23,6 +23,12 @@ unfoldable pub gather : {A : Type 0} → ℕ → (ℕ → List A) → List A
 gather zero f = []
 gather (suc n) f = gather n f ++ f n
 
+-- the same runs, one behind the other
+pub gather-same : {A : Type 0} (f g : ℕ → List A) (n : ℕ) → ((i : ℕ) → i < n → f i ≡ g i) → gather n f ≡ gather n g
+unfolding gather
+gather-same f g zero h = refl
+gather-same f g (suc n) h = ap₂ (λ a b. a ++ b) (gather-same f g n (λ i l. h i (omega arith))) (h n (omega arith))
+
 module _ {A : Type 0} where
   -- a run of stores behind another is one run
   pub sets-append : (l : List A) (i : ℕ) (a b : List A) → sets (sets l i a) (i + length a) b ≡ sets l i (a ++ b)

@@ -4,9 +4,10 @@
 -- turn one into a fact about numbers.
 -- Assumes nothing.
 use mathlib.Core.Path.{_≡_, refl, sym, ap, _∙_, subst}
-use mathlib.Core.Bool.{Bool, true, false, not}
+use mathlib.Core.Bool.{Bool, true, false, not, Bool·beq}
 use mathlib.Core.Logic.{_⊎_, inl, inr}
 use lib.Dec.{T}
+use borrow.Author.Tests.{not-true, not-false}
 
 infixr 75 _and_
 infixr 72 _or_
@@ -124,3 +125,19 @@ false-unless false h = refl
 pub pick-either {ℓ} : {A : Type 0} (P : A → Type ℓ) (b : Bool) (x y : A) → (b ≡ true → P x) → (b ≡ false → P y) → P (pick b x y)
 pick-either P true x y f g = f refl
 pick-either P false x y f g = g refl
+
+-- ---- tests in code
+
+-- a branch on the opposite of a test r that is b
+pub failed : {r b : Bool} → r ≡ b → not r ≡ true → b ≡ false
+failed {r} e h = sym e ∙ not-true r h
+
+pub passed : {r b : Bool} → r ≡ b → not r ≡ false → b ≡ true
+passed {r} e h = sym e ∙ not-false r h
+
+-- the code's `==` of two tests
+pub beq-same : (a b : Bool) → Bool·beq a b ≡ same a b
+beq-same true true = refl
+beq-same true false = refl
+beq-same false true = refl
+beq-same false false = refl

@@ -18,6 +18,7 @@ use Rattle.rules.specs.declared.Completion.the-variants.{NotYet, With}
 use Rattle.rules.specs.declared.Record.{Record}
 use Rattle.rules.specs.declared.SetUp.{SetUp}
 use Rattle.rules.specs.declared.Sent.the-variants.{Nothing}
+use Rattle.rules.specs.declared.Answer.{Answer}
 use Rattle.rules.specs.declared.Outcome.{Outcome}
 use Rattle.rules.specs.Numbers.{exponent, groupKeeps, numbersKeep, isBox}
 use Rattle.rules.specs.Messages.{Message, send, echo, ready, recovery, tagIn, hasMatrix, malformed, foreign, messageIn, matrixIn, written}
@@ -203,3 +204,7 @@ deliver x sender bytes buffer =
 -- the promise of a delivery
 abbrev pub Delivers : Record → ℕ → List ℕ → List ℕ → Outcome → List ℕ → Type 0
 Delivers x sender bytes buffer o buffer′ = done o buffer′ ≡ deliver x sender bytes buffer
+
+-- the promise of a delivery over a lent record: x at entry, x′ at exit
+abbrev pub DeliversLent : Record → ℕ → List ℕ → List ℕ → Answer → Record → List ℕ → Type 0
+DeliversLent x sender bytes buffer a x′ buffer′ = Delivers x sender bytes buffer (record { answer = a; next = x′ }) buffer′

@@ -1,3 +1,2 @@
--- What the tests of slots name beside the definitions of `rules`, and how the code compares two tests.
-pub mod Alike
+-- What the tests of slots name beside the definitions of `rules`.
 pub mod Slots

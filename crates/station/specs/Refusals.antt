@@ -1,25 +1,17 @@
 -- Laws that the proofs of the calls share.
 --
--- In order: a test read through its opposite; the whole answer of a call, refused and taken.
+-- In order: the whole answer of a call that is refused, and of one that is taken.
 -- Assumes nothing.
-use mathlib.Core.Path.{_≡_, sym, _∙_}
-use mathlib.Core.Bool.{Bool, true, false, not}
+use mathlib.Core.Path.{_≡_}
+use mathlib.Core.Bool.{false}
 use mathlib.Core.List.{List}
 use Prim.Native.Nat.{ℕ}
 use lib.Dec.{eqb}
-use borrow.Author.Tests.{not-true, not-false}
 use Rattle.rules.specs.declared.Outcome.{Outcome}
 use Rattle.rules.specs.declared.Record.{Record}
 use Rattle.rules.specs.Steps.{Step}
 use Rattle.rules.specs.Answers.{done, refused, outcomeOf, answered}
 use Rattle.steps.specs.Takes.{Takes}
-
--- what a call gave, as the branch on its opposite found it
-pub failed : {r b : Bool} → r ≡ b → not r ≡ true → b ≡ false
-failed {r} e h = sym e ∙ not-true r h
-
-pub passed : {r b : Bool} → r ≡ b → not r ≡ false → b ≡ true
-passed {r} e h = sym e ∙ not-false r h
 
 module _ (step : Step) (x : Record) (buffer : List ℕ) {m : ℕ} {o : Outcome} where
   -- a refusal by the first row that holds, with the buffer as it was

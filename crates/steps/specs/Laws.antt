@@ -4,16 +4,16 @@
 -- echo or a ready goes; the coins of a deal.
 -- Assumes nothing.
 use mathlib.Core.Bool.{true}
-use mathlib.Core.List.{List, [], _++_}
+use mathlib.Core.List.{List, []}
 use mathlib.Core.Logic.{⊎-elim}
 use mathlib.Core.Path.{_≡_, refl, ap, ap₂, _∙_}
-use Prim.Native.Nat.{ℕ, zero, suc, _+_, _-_, _*_, _<_, _≤_}
+use Prim.Native.Nat.{ℕ, _+_, _-_, _*_, _<_, _≤_}
 use native.Mathlib.Omega.{arith}
 use lib.Dec.{eqb, ltb}
 use lib.ListN.{length, getD, replicate}
 use borrow.Author.Tests.{eqb-true, ltb-true, eq-eqb, ne-eqb, lt-ltb, le-ltb}
 use Rattle.folds.specs.Tests.{pick, or-cases, and-false, and-left, and-right}
-use Rattle.folds.specs.Runs.{gather}
+use Rattle.folds.specs.Runs.{gather-same}
 use Rattle.folds.specs.Stores.{getD-stores}
 use Rattle.rules.specs.declared.Element.{Element}
 use Rattle.rules.specs.declared.Four.{Four}
@@ -86,11 +86,6 @@ pub place-of : (x : Record) (m : ℕ) → sound x ≡ true → m < x .setup .n �
 place-of x m h l = omega (arith, ranges x h .boxes)
 
 -- ---- a message to each box, from ten places of which the first n are filled
-
-gather-same : {A : Type 0} (f g : ℕ → List A) (n : ℕ) → ((i : ℕ) → i < n → f i ≡ g i) → gather n f ≡ gather n g
-unfolding gather
-gather-same f g zero h = refl
-gather-same f g (suc n) h = ap₂ (λ a b. a ++ b) (gather-same f g n (λ i l. h i (omega arith))) (h n (omega arith))
 
 module _ {A : Type 0} (u : SetUp) (message : List (List Element) → A → Message) (blank none : A) (f : ℕ → A) where
   each-from : (C : List (List Element)) {all : List A} → u .n ≤ 10 → all ≡ toBoxes (u .n) blank f

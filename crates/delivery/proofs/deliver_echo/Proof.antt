@@ -5,13 +5,14 @@ use native.Mathlib.Omega.{arith}
 use lib.Dec.{lit≤}
 use lib.ListN.{length}
 use borrow.Author.Needs.{needs}
+use Rattle.folds.specs.Tests.{failed, passed}
 use Rattle.rules.specs.declared.Group.{Group}
 use Rattle.rules.specs.Messages.{wholeLength, matrixIn, fourIn}
 use Rattle.rules.specs.Dealing.{matrixPasses, fourBelow, pointCheck}
 use Rattle.rules.specs.Record.{groupIn}
 use Rattle.rules.specs.Steps.{heard, echoStep}
 use Rattle.steps.specs.Laws.{ranges, group-ranges}
-use Rattle.delivery.specs.Laws.{failed, passed, point-tested, sender, place, own, not-heard, long, is-echo, refuses-8, refuses-9, refuses-10, takes}
+use Rattle.delivery.specs.Laws.{point-tested, sender, place, own, not-heard, long, is-echo, refuses-8, refuses-9, refuses-10, takes}
 use Rattle.delivery.proofs.deliver_echo.Statement.{statement}
 use Rattle.delivery.proofs.deliver_echo.Tie as tie
 

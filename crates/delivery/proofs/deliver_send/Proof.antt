@@ -5,13 +5,14 @@ use native.Mathlib.Omega.{arith}
 use lib.Dec.{lit≤}
 use lib.ListN.{length}
 use borrow.Author.Needs.{needs}
+use Rattle.folds.specs.Tests.{failed, passed}
 use Rattle.rules.specs.declared.Group.{Group}
 use Rattle.rules.specs.Messages.{wholeLength, matrixIn, polynomialsIn}
 use Rattle.rules.specs.Dealing.{matrixPasses, polynomialsBelow, polynomialCheck}
 use Rattle.rules.specs.Record.{groupIn}
 use Rattle.rules.specs.Steps.{heard, sendStep}
 use Rattle.steps.specs.Laws.{ranges, group-ranges}
-use Rattle.delivery.specs.Laws.{failed, passed, polynomial-tested, place, own, long, is-send, refuses-8, refuses-9, refuses-10, takes}
+use Rattle.delivery.specs.Laws.{polynomial-tested, place, own, long, is-send, refuses-8, refuses-9, refuses-10, takes}
 use Rattle.delivery.proofs.deliver_send.Statement.{statement}
 use Rattle.delivery.proofs.deliver_send.Tie as tie
 

@@ -3,6 +3,7 @@ use mathlib.Core.Path.{_≡_, ap, ap₂, _∙_}
 use Prim.Native.Nat.{_+_}
 use native.Mathlib.Omega.{arith}
 use borrow.Author.Needs.{needs}
+use Rattle.folds.specs.Tests.{failed, passed}
 use Rattle.rules.specs.declared.Group.{Group}
 use Rattle.rules.specs.Messages.{wholeLength, pairIn}
 use Rattle.rules.specs.Dealing.{pairBelow}
@@ -10,7 +11,7 @@ use Rattle.rules.specs.Record.{groupIn}
 use Rattle.rules.specs.Steps.{heard, shareStep}
 use Rattle.rules.specs.Answers.{shareChecks, accepted}
 use Rattle.steps.specs.Laws.{ranges}
-use Rattle.delivery.specs.Laws.{failed, passed, sender, place, not-heard, long, share-refuses-9, share-refuses-10, share-takes}
+use Rattle.delivery.specs.Laws.{sender, place, not-heard, long, share-refuses-9, share-refuses-10, share-takes}
 use Rattle.delivery.proofs.deliver_share.Statement.{statement}
 use Rattle.delivery.proofs.deliver_share.Tie as tie
 

@@ -1,19 +1,10 @@
 -- `numbers_keep` is the test that refusal 12 does not hold of a set-up: each call gives one part of the test.
 -- Assumes nothing.
-use mathlib.Core.Path.{_≡_, sym, _∙_}
-use mathlib.Core.Bool.{Bool, true, false, not}
 use borrow.Author.Needs.{needs}
-use borrow.Author.Tests.{not-true, not-false}
+use Rattle.folds.specs.Tests.{failed, passed}
 use Rattle.rules.specs.Numbers.{numbersKeep}
 use Rattle.numbers.proofs.numbers_keep.Statement.{statement}
 use Rattle.numbers.proofs.numbers_keep.Tie as tie
-
--- What a call gave, as the branch on its opposite found it.
-failed : {r b : Bool} → r ≡ b → not r ≡ true → b ≡ false
-failed {r} e h = sym e ∙ not-true r h
-
-passed : {r b : Bool} → r ≡ b → not r ≡ false → b ≡ true
-passed {r} e h = sym e ∙ not-false r h
 
 sizes-keep-requires : tie.Need-sizes-keep-requires
 sizes-keep-requires c κs = search needs

@@ -19,12 +19,13 @@ use Rattle.rules.specs.declared.Marks.{Marks}
 use Rattle.rules.specs.declared.Record.{Record}
 use Rattle.rules.specs.declared.SetUp.{SetUp}
 use Rattle.rules.specs.declared.Sent.the-variants.{Nothing}
+use Rattle.rules.specs.declared.Answer.{Answer}
 use Rattle.rules.specs.declared.Outcome.{Outcome}
 use Rattle.rules.specs.Messages.{tagIn, hasMatrix}
 use Rattle.rules.specs.Record.{noMarks, marked, heardFor, zeroRecord}
 use Rattle.rules.specs.Steps.{Step, mark, heard}
 use Rattle.rules.specs.Laws.Shape.{Shaped}
-use Rattle.rules.specs.Answers.{Refusal, firstOf, Done, done, noPair, accepted, refused, outcomeOf, answered, setUpRows, setUp, SetsUp, dealRows, deal, Deals, recoverRows, recover, Recovers, deliverRows, refusalHeard, deliver, Delivers}
+use Rattle.rules.specs.Answers.{Refusal, firstOf, Done, done, noPair, accepted, refused, outcomeOf, answered, setUpRows, setUp, SetsUp, dealRows, deal, Deals, recoverRows, recover, Recovers, deliverRows, refusalHeard, deliver, Delivers, DeliversLent}
 
 -- ---- the first row of a table that holds
 
@@ -297,3 +298,9 @@ recover-unique x buffer o o′ b b′ = both-equal o o′ b b′ _
 pub deliver-unique : (x : Record) (sender : ℕ) (bytes buffer : List ℕ) (o o′ : Outcome) (b b′ : List ℕ)
     → Delivers x sender bytes buffer o b → Delivers x sender bytes buffer o′ b′ → (o ≡ o′) × (b ≡ b′)
 deliver-unique x sender bytes buffer o o′ b b′ = both-equal o o′ b b′ _
+
+pub lent-unique : (x : Record) (sender : ℕ) (bytes buffer : List ℕ) (a a′ : Answer) (y y′ : Record) (b b′ : List ℕ)
+    → DeliversLent x sender bytes buffer a y b → DeliversLent x sender bytes buffer a′ y′ b′ → (a ≡ a′) × (y ≡ y′) × (b ≡ b′)
+lent-unique x sender bytes buffer a a′ y y′ b b′ p q =
+    let same = deliver-unique x sender bytes buffer _ _ b b′ p q in
+    (ap (λ (o : Outcome). o .answer) (same .0), ap (λ (o : Outcome). o .next) (same .0), same .1)

@@ -5,10 +5,9 @@ use mathlib.Core.Logic.{⊎-elim}
 use lib.Dec.{leb}
 use borrow.Author.Needs.{needs}
 use borrow.Author.Tests.{le-leb, lt-leb}
-use Rattle.folds.specs.Tests.{_or_, same}
+use Rattle.folds.specs.Tests.{_or_, same, beq-same}
 use Rattle.rules.specs.Numbers.{echoQuorum}
 use Rattle.rules.specs.Record.{countE, countR, pairKeeps}
-use Rattle.slots.specs.Alike.{beq-same}
 use Rattle.slots.specs.Slots.{countMarks}
 use Rattle.slots.proofs.pair_keeps.Statement.{statement}
 use Rattle.slots.proofs.pair_keeps.Tie as tie

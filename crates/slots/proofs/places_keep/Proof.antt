@@ -7,11 +7,10 @@ use Prim.Native.Nat.{ℕ, _-_, _≤_}
 use native.Mathlib.Omega.{arith}
 use borrow.Author.Needs.{needs}
 use borrow.Author.Tests.{not-true, not-false}
-use Rattle.folds.specs.Tests.{_or_, same}
+use Rattle.folds.specs.Tests.{_or_, same, beq-same}
 use Rattle.folds.specs.Below.{allBelow, allBelow-zero, allBelow-more, allBelow-not}
 use Rattle.rules.specs.declared.Slot.{Slot}
 use Rattle.rules.specs.Record.{marked, held, placesKeep}
-use Rattle.slots.specs.Alike.{beq-same}
 use Rattle.slots.proofs.places_keep.Statement.{statement}
 use Rattle.slots.proofs.places_keep.Tie as tie
 

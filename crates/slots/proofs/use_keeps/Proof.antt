@@ -1,9 +1,8 @@
 -- `use_keeps` is the test that a matrix is in use exactly if some place of it is held. Assumes nothing.
 use mathlib.Core.Path.{ap, _∙_}
 use borrow.Author.Needs.{needs}
-use Rattle.folds.specs.Tests.{same}
+use Rattle.folds.specs.Tests.{same, beq-same}
 use Rattle.rules.specs.Record.{useKeeps}
-use Rattle.slots.specs.Alike.{beq-same}
 use Rattle.slots.specs.Slots.{anyHeld}
 use Rattle.slots.proofs.use_keeps.Statement.{statement}
 use Rattle.slots.proofs.use_keeps.Tie as tie

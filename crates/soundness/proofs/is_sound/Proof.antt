@@ -1,12 +1,11 @@
 -- `is_sound` is the test of a sound record: a test that fails is one that every sound record passes, and a record that passes
 -- all of them is sound. Assumes nothing.
 use mathlib.Core.Path.{_≡_, sym, ap, _∙_}
-use mathlib.Core.Bool.{Bool, true, false, not}
+use mathlib.Core.Bool.{Bool, true, false}
 use Prim.Native.Nat.{_<_}
 use native.Mathlib.Omega.{arith}
 use borrow.Author.Needs.{needs}
-use borrow.Author.Tests.{not-true, not-false}
-use Rattle.folds.specs.Tests.{true≢false, false-unless, iff-same}
+use Rattle.folds.specs.Tests.{true≢false, false-unless, iff-same, failed, passed}
 use Rattle.rules.specs.declared.Group.{Group}
 use Rattle.rules.specs.declared.Record.{Record}
 use Rattle.rules.specs.Numbers.{groupOf, groupKeeps, numbersKeep}
@@ -17,13 +16,6 @@ use Rattle.soundness.specs.Clauses.{pairsBelow, sendersClear}
 use Rattle.soundness.specs.Sound.{Tests, tests, tests-sound}
 use Rattle.soundness.proofs.is_sound.Statement.{statement}
 use Rattle.soundness.proofs.is_sound.Tie as tie
-
--- what a call gave, as the branch on its opposite found it
-failed : {r b : Bool} → r ≡ b → not r ≡ true → b ≡ false
-failed {r} e h = sym e ∙ not-true r h
-
-passed : {r b : Bool} → r ≡ b → not r ≡ false → b ≡ true
-passed {r} e h = sym e ∙ not-false r h
 
 -- a test that a sound record passes failed
 refused : (x : Record) {b : Bool} → (Tests x → b ≡ true) → b ≡ false → false ≡ sound x

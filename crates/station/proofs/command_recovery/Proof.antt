@@ -4,9 +4,10 @@ use mathlib.Core.Path.{_≡_, refl}
 use mathlib.Core.Bool.{true, false}
 use borrow.Author.Needs.{needs}
 use borrow.Author.Tests.{lt-ltb, le-ltb}
+use Rattle.folds.specs.Tests.{failed, passed}
 use Rattle.rules.specs.Record.{isDone, sound}
 use Rattle.rules.specs.Answers.{firstOf, tooShort, recoverRows, recover}
-use Rattle.station.specs.Refusals.{failed, passed, refuses, takes}
+use Rattle.station.specs.Refusals.{refuses, takes}
 use Rattle.station.proofs.command_recovery.Statement.{statement}
 use Rattle.station.proofs.command_recovery.Tie as tie
 

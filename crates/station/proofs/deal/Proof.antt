@@ -5,13 +5,14 @@ use native.Mathlib.Omega.{arith}
 use lib.Dec.{eqb}
 use borrow.Author.Needs.{needs}
 use borrow.Author.Tests.{lt-ltb, le-ltb, eq-eqb, ne-eqb}
+use Rattle.folds.specs.Tests.{failed, passed}
 use Rattle.rules.specs.declared.Group.{Group}
 use Rattle.rules.specs.declared.Record.{Record}
 use Rattle.rules.specs.Dealing.{coinsKeep}
 use Rattle.rules.specs.Record.{groupIn, sound}
 use Rattle.rules.specs.Answers.{firstOf, tooShort, dealRows, deal}
 use Rattle.steps.specs.Laws.{ranges}
-use Rattle.station.specs.Refusals.{failed, passed, refuses, takes}
+use Rattle.station.specs.Refusals.{refuses, takes}
 use Rattle.station.proofs.deal.Statement.{statement}
 use Rattle.station.proofs.deal.Tie as tie
 

@@ -8,7 +8,7 @@ use native.Mathlib.Omega.{arith}
 use lib.Dec.{eqb}
 use borrow.Author.Needs.{needs}
 use borrow.Author.Tests.{lt-ltb, le-ltb, eq-eqb, ne-eqb}
-use Rattle.folds.specs.Tests.{_and_}
+use Rattle.folds.specs.Tests.{_and_, failed, passed}
 use Rattle.rules.specs.Numbers.{isBox}
 use Rattle.rules.specs.Messages.{tagIn, malformed, foreign}
 use Rattle.rules.specs.Record.{heardFor, isThere, isDone, sound}
@@ -16,7 +16,6 @@ use Rattle.rules.specs.Answers.{firstOf, tooShort, deliverRows}
 use Rattle.rules.specs.Laws.Numbers.{is-box}
 use Rattle.rules.specs.Laws.RoundTrip.{formed}
 use Rattle.steps.specs.Laws.{ranges}
-use Rattle.station.specs.Refusals.{failed, passed}
 use Rattle.station.specs.Past.{header, last-tag, turns, Past, knows, delivers}
 use Rattle.station.proofs.deliver.Statement.{statement}
 use Rattle.station.proofs.deliver.Tie as tie

@@ -2,10 +2,10 @@
 -- Assumes nothing.
 use mathlib.Core.Path.{ap, _∙_}
 use borrow.Author.Needs.{needs}
+use Rattle.folds.specs.Tests.{failed, passed}
 use Rattle.rules.specs.declared.Sent.the-variants.{Nothing}
 use Rattle.rules.specs.Answers.{firstOf, accepted, refused, outcomeOf, setUpRows, setUp}
 use Rattle.steps.specs.Takes.{sentWith}
-use Rattle.station.specs.Refusals.{failed, passed}
 use Rattle.station.proofs.set_up.Statement.{statement}
 use Rattle.station.proofs.set_up.Tie as tie
 

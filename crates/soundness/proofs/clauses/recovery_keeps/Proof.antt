@@ -6,10 +6,9 @@ use Prim.Native.Nat.{ℕ}
 use lib.Dec.{eqb, leb}
 use borrow.Author.Needs.{needs}
 use borrow.Author.Tests.{not-true, not-false, le-leb, lt-leb}
-use Rattle.folds.specs.Tests.{same, implies}
+use Rattle.folds.specs.Tests.{same, implies, beq-same}
 use Rattle.rules.specs.declared.Record.{Record}
 use Rattle.rules.specs.Record.{isDone, sharesKept, recoveryKeeps}
-use Rattle.slots.specs.Alike.{beq-same}
 use Rattle.soundness.specs.Clauses.{sharesCommanded, sharesHeard}
 use Rattle.soundness.proofs.clauses.recovery_keeps.Statement.{statement}
 use Rattle.soundness.proofs.clauses.recovery_keeps.Tie as tie

@@ -7,12 +7,11 @@ use Prim.Native.Nat.{ℕ, _-_, _≤_}
 use native.Mathlib.Omega.{arith}
 use borrow.Author.Needs.{needs}
 use borrow.Author.Tests.{not-true, not-false}
-use Rattle.folds.specs.Tests.{same}
+use Rattle.folds.specs.Tests.{same, beq-same}
 use Rattle.folds.specs.Below.{allBelow, allBelow-zero, allBelow-more, allBelow-not}
 use Rattle.rules.specs.declared.Keep.{Keep}
 use Rattle.rules.specs.declared.Marks.{Marks}
 use Rattle.rules.specs.Record.{shareAt, marked, isThere}
-use Rattle.slots.specs.Alike.{beq-same}
 use Rattle.soundness.specs.Clauses.{sharesHeard}
 use Rattle.soundness.proofs.clauses.shares_heard.Statement.{statement}
 use Rattle.soundness.proofs.clauses.shares_heard.Tie as tie
