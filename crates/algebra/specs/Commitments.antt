@@ -2,13 +2,14 @@
 --
 -- In order: a matrix's product of powers by rows and by columns, and a matrix's sum likewise; exponents modulo q,
 -- where every entry's q-th power is 1; products of powers of commitments are commitments to the sums, for a vector and for
--- a matrix, with exponents as they are or modulo q.
+-- a matrix, with exponents as they are or modulo q; a commitment as a power of g, where h is one.
 -- The exponents are any a j and b l: with a j = x ^ j and b l = y ^ l these are the values of polynomials at x and y.
 -- Assumes nothing.
-use mathlib.Core.Path.{_≡_, sym, ap, ap₂, _∙_}
-use Prim.Native.Nat.{ℕ, _*_, _%_, _^_, _<_}
+use mathlib.Core.Path.{_≡_, sym, ap, ap₂, _∙_, refl}
+use Prim.Native.Nat.{ℕ, _*_, _%_, _^_, _<_, _+_}
 use native.Mathlib.Nat.{mod-mod, mod-eq-of-lt, mul-comm}
 use native.Mathlib.Omega.{arith}
+use lib.Pow.{pow-add}
 use Rattle.folds.specs.Below.{sumBelow, prodBelow, sumBelow-same, prodBelow-same}
 use Rattle.algebra.specs.Residues.{mul-cong}
 use Rattle.algebra.specs.Powers.{mul-pow, pow-mul, pow-cong, pow-same, member-mod, member-mul, member-pow}
@@ -124,3 +125,9 @@ module _ (p g h : ℕ) where
         → prodBelow k (λ j. prodBelow n (λ l. C j l ^ (a j * b l))) % p
         ≡ (g ^ (sumBelow k (λ j. sumBelow n (λ l. S j l * (a j * b l))) % q) * h ^ (sumBelow k (λ j. sumBelow n (λ l. T j l * (a j * b l))) % q)) % p
     commit-matrix-mod k n a b C S T e = commit-matrix k n a b C S T e ∙ sym (commit-mod _ _)
+
+-- With h the w-th power of g, a commitment is a power of g.
+pub commit-base : (p g h w : ℕ) → h % p ≡ g ^ w % p → (s t : ℕ) → (g ^ s * h ^ t) % p ≡ g ^ (s + w * t) % p
+commit-base p g h w e s t =
+    mul-cong p (g ^ s) (g ^ s) (h ^ t) ((g ^ w) ^ t) refl (pow-cong p h (g ^ w) t e)
+    ∙ ap (λ u. u % p) (ap (λ u. g ^ s * u) (sym (pow-mul g w t)) ∙ sym (pow-add g s (w * t)))

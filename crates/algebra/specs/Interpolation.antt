@@ -1,8 +1,8 @@
 -- Lagrange's interpolation modulo a prime q, through k points at distinct places.
 --
 -- In order: the definition; it is below q, depends only on the points and is linear in the values; it is a polynomial with
--- k coefficients; it goes through its points, so it gives every polynomial with at most k coefficients back from its values;
--- the polynomial through k points (`Through`).
+-- k coefficients; it goes through its points, so it gives every polynomial with at most k coefficients back from its values,
+-- and moves as the values do that move by those of a polynomial; the polynomial through k points (`Through`).
 -- Not here: that a polynomial with too many roots is zero, and that two that agree at k places are one (`Polynomials`).
 -- Assumes nothing.
 use mathlib.Core.Path.{_≡_, refl, sym, ap, ap₂, subst, _∙_}
@@ -220,6 +220,21 @@ module _ (q : ℕ) (P : Prime q) (k : ℕ) (xs : ℕ → ℕ) (A : Places q k xs
           (λ i h n. ap (λ t. (t * x ^ i) % q) (pick-false (eqb i j) 1 0 (ne-eqb i j n)) ∙ ap (λ t. t % q) (zero-mul (x ^ i)) ∙ zero-mod q)
           ∙ ap (λ t. (t * x ^ j) % q) (pick-true (eqb j j) 1 0 (eq-eqb j j refl))
           ∙ ap (λ t. t % q) (one-mul (x ^ j))
+
+  -- Where each y_i moves by d w c(x_i), the interpolation at x moves by d w c(x).
+  pub interpolate-moves : (ys c : ℕ → ℕ) (d w x : ℕ)
+      → interpolate q k xs (λ i. (ys i + d * (sumBelow k (λ l. c l * xs i ^ l) % q * w)) % q) x
+      ≡ (interpolate q k xs ys x + d * (sumBelow k (λ l. c l * x ^ l) % q * w)) % q
+  interpolate-moves ys c d w x =
+      let at : ℕ → ℕ = λ x. sumBelow k (λ l. c l * x ^ l) % q in
+      let one : (i : ℕ) → ys i + d * (at (xs i) * w) ≡ 1 * ys i + d * w * at (xs i) = λ i. omega arith in
+      let last : 1 * interpolate q k xs ys x + d * w * at x ≡ interpolate q k xs ys x + d * (at x * w) = omega arith in
+      interpolate-cong q k xs xs _ (λ i. 1 * ys i + d * w * at (xs i)) x (λ i l. refl)
+      (λ i l. mod-mod (ys i + d * (at (xs i) * w)) q ∙ ap (λ v. v % q) (one i))
+      ∙ interpolate-linear q k xs ys (λ i. at (xs i)) 1 (d * w) x
+      ∙ ap (λ v. (1 * interpolate q k xs ys x + d * w * v) % q)
+      (interpolate-sum (λ i. at (xs i)) c (λ i l. mod-mod (sumBelow k (λ l. c l * xs i ^ l)) q) x)
+      ∙ ap (λ v. v % q) last
 
 -- ---- the polynomial through k points
 

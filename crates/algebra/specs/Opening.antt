@@ -3,18 +3,17 @@
 -- In order: lemmas on exponents; k shares that fit c 0, .. c (k - 1) open what these give at any place, and at 0 this is c 0;
 -- two openings.
 -- Assumes nothing.
-use mathlib.Core.Path.{_≡_, refl, sym, ap, ap₂, _∙_}
+use mathlib.Core.Path.{_≡_, sym, ap, ap₂, _∙_}
 use mathlib.Core.Logic.{_≢_}
 use Prim.Native.Nat.{ℕ, zero, suc, _+_, _*_, _%_, _^_, _<_}
 use native.Mathlib.Nat.{mod-mod, mul-comm, mul-one, mul-zero, pow-zero, pow-suc, not-suc-le-zero}
-use lib.Pow.{pow-add}
 use Rattle.folds.specs.Below.{sumBelow, prodBelow, sumBelow-same, prodBelow-same}
-use Rattle.algebra.specs.Residues.{mul-cong, Prime}
-use Rattle.algebra.specs.Powers.{pow-mul, pow-one, pow-cong, order-exact}
+use Rattle.algebra.specs.Residues.{Prime}
+use Rattle.algebra.specs.Powers.{pow-mul, pow-one, order-exact}
 use Rattle.algebra.specs.Sums.{prod-one, prod-pow, prod-swap, prod-first, pow-sum}
 use Rattle.algebra.specs.Polynomials.{Places}
 use Rattle.algebra.specs.Interpolation.{interpolate, weight, interpolate-power}
-use Rattle.algebra.specs.Commitments.{prod-same, commit-vector, commit-same}
+use Rattle.algebra.specs.Commitments.{prod-same, commit-vector, commit-same, commit-base}
 
 -- products over j, each to a power w i and multiplied: the exponents of each c j add up
 collect : (k n : ℕ) (w c : ℕ → ℕ) (e : ℕ → ℕ → ℕ)
@@ -65,11 +64,6 @@ module _ (q p : ℕ) (P : Prime q) (g h : ℕ) (og : g ^ q % p ≡ 1) (oh : h ^ 
 -- ---- two openings
 
 module _ (q p : ℕ) (P : Prime q) (g h : ℕ) (og : g ^ q % p ≡ 1) (n : g % p ≢ 1) (w : ℕ) (e : h % p ≡ g ^ w % p) where
-  one-base : (s t : ℕ) → (g ^ s * h ^ t) % p ≡ g ^ (s + w * t) % p
-  one-base s t =
-      mul-cong p (g ^ s) (g ^ s) (h ^ t) ((g ^ w) ^ t) refl (pow-cong p h (g ^ w) t e)
-      ∙ ap (λ u. u % p) (ap (λ u. g ^ s * u) (sym (pow-mul g w t)) ∙ sym (pow-add g s (w * t)))
-
   -- With h the w-th power of g, two openings of one commitment differ by a multiple of w.
   pub openings-differ : (s t s' t' : ℕ) → (g ^ s * h ^ t) % p ≡ (g ^ s' * h ^ t') % p → (s + w * t) % q ≡ (s' + w * t') % q
-  openings-differ s t s' t' o = order-exact q p P g og n (s + w * t) (s' + w * t') (sym (one-base s t) ∙ o ∙ one-base s' t')
+  openings-differ s t s' t' o = order-exact q p P g og n (s + w * t) (s' + w * t') (sym (commit-base p g h w e s t) ∙ o ∙ commit-base p g h w e s' t')

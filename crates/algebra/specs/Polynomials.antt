@@ -1,6 +1,6 @@
 -- Polynomials with plain numbers for coefficients, lowest first, and their values modulo a prime.
 --
--- In order: the value of a list of coefficients, and of c 0, .. c (k - 1), as a sum; sums, multiples and products with x + b;
+-- In order: the value of a list of coefficients, and of c 0, .. c (k - 1), as a sum, at 0 the first; sums, multiples and products with x + b;
 -- division by x - a; remainders; a polynomial with as many roots modulo a prime as coefficients has only zeros for these;
 -- two polynomials that agree at as many places as they have coefficients agree everywhere, and are one.
 -- Assumes nothing.
@@ -8,7 +8,7 @@ use mathlib.Core.Path.{_≡_, refl, sym, ap, ap₂, _∙_}
 use mathlib.Core.Logic.{_≢_}
 use mathlib.Core.List.{List, [], _∷_, map}
 use Prim.Native.Nat.{ℕ, zero, suc, _+_, _*_, _-_, _%_, _^_, _≤_, _<_, suc-le-suc}
-use native.Mathlib.Nat.{mod-eq-of-lt, mod-mod, zero-mod, zero-add, add-mod-right, mul-one, mul-zero, pow-zero, pow-suc, mul-comm, le-refl, le-of-lt, not-suc-le-zero, le-of-suc-le-suc}
+use native.Mathlib.Nat.{mod-eq-of-lt, mod-mod, zero-mod, zero-add, add-mod-right, mul-one, mul-zero, pow-zero, pow-suc, mul-comm, le-refl, le-of-lt, not-suc-le-zero, le-of-suc-le-suc, zero-mul, add-zero}
 use native.Mathlib.Omega.{arith}
 use lib.ListN.{length, getD, length-map}
 use lib.Seq.{ext-getD}
@@ -66,6 +66,12 @@ value-sum (suc k) c x =
     ∙ sum-scale k x (λ j. c (suc j) * x ^ j)
     ∙ sumBelow-same _ _ k (λ j l. sym (next (c (suc j)) x j)))
     ∙ sym (sum-first k (λ j. c j * x ^ j))
+
+-- Of the powers of 0 only the first counts.
+pub sum-nought : (k : ℕ) (c : ℕ → ℕ) → 0 < k → sumBelow k (λ l. c l * 0 ^ l) ≡ c 0
+unfolding value coefficients
+sum-nought zero c l = absurd (not-suc-le-zero l)
+sum-nought (suc k) c l = sym (value-sum (suc k) c 0) ∙ ap (λ t. c 0 + t) (zero-mul _) ∙ add-zero (c 0)
 
 -- There are k of them.
 pub length-coefficients : (k : ℕ) (c : ℕ → ℕ) → length (coefficients k c) ≡ k

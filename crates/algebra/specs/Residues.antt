@@ -3,7 +3,7 @@
 -- In order: two numbers with one remainder (`same-mod` the way in, `mod-same` the way out); inner remainders go (`mods`);
 -- sums and products of numbers with one remainder, and with zero or one; differences; `Prime`, and that the test finds it;
 -- the inverse, and that a product modulo a prime is zero only where a factor is; the field that the residues form; the
--- inverse's steps, as code takes them.
+-- inverse's steps, as code takes them, and 1 - x / x; numbers k to a row.
 -- Not here: `mod-add-mod`, `add-mod-mod`, `mod-mod`, `mod-lt`, `mod-eq-of-lt` (`native.Mathlib.Nat`).
 -- Assumes nothing.
 use mathlib.Core.Path.{_≡_, refl, sym, ap, ap₂, _∙_}
@@ -11,27 +11,7 @@ use mathlib.Core.Logic.{_≢_, ⊎-elim}
 use mathlib.Core.Bool.{Bool, true, false, not}
 use Prim.Native.Nat.{ℕ, zero, suc, _+_, _*_, _-_, _/_, _%_, _≤_, _<_}
 use native.Mathlib.Nat
-use native.Mathlib.Nat.{
-  add-mul-mod-self-right,
-  mod-add-div',
-  div-add-mod,
-  div-le-self,
-  mod-lt,
-  mod-eq-of-lt,
-  mod-add-mod,
-  add-mod-mod,
-  add-mod,
-  add-mod-right,
-  mod-mod,
-  zero-mod,
-  zero-add,
-  add-comm,
-  mul-comm,
-  mul-right-comm,
-  one-mul,
-  zero-mul,
-  le-of-lt,
-}
+use native.Mathlib.Nat.{add-mul-mod-self-right, mod-add-div', div-add-mod, div-le-self, mod-lt, mod-eq-of-lt, mod-add-mod, add-mod-mod, add-mod, add-mod-right, mod-mod, zero-mod, zero-add, add-comm, mul-comm, mul-right-comm, one-mul, zero-mul, le-of-lt, add-zero, add-mul, mul-mod-left, mul-mod-right, div-eq-of-lt, mul-add-div-right, mul-add-mod-self-right}
 use native.Mathlib.Omega.{arith}
 use lib.Dec.{ltb, eqb}
 use borrow.Author.Tests.{ltb-true, ltb-false, lt-ltb, le-ltb, eqb-false, not-true}
@@ -94,6 +74,10 @@ module _ (m : ℕ) where
   pub mul-zero-mod : (a b : ℕ) → b % m ≡ 0 → (a * b) % m ≡ 0
   mul-zero-mod a b h = ap (λ t. t % m) (mul-comm a b) ∙ zero-mul-mod b a h
 
+  -- Multiples of two numbers that are zero together are zero together.
+  pub multiples-zero : (a b w : ℕ) → (a + b) % m ≡ 0 → (a * w + b * w) % m ≡ 0
+  multiples-zero a b w h = ap (λ t. t % m) (sym (add-mul a b w)) ∙ zero-mul-mod (a + b) w h
+
   -- A factor that is one modulo m goes.
   pub one-mul-mod : (a b : ℕ) → a % m ≡ 1 → (a * b) % m ≡ b % m
   one-mul-mod a b h = sym (mod-mul-mod a b m) ∙ ap (λ t. (t * b) % m) h ∙ ap (λ t. t % m) (one-mul b)
@@ -115,6 +99,20 @@ module _ (m : ℕ) (l : 0 < m) where
   pub zero-difference : (c d : ℕ) → c % m ≡ d % m → (c + (m - 1) * d) % m ≡ 0
   zero-difference c d h =
       add-cong m c d _ _ h refl ∙ same-mod m (d + (m - 1) * d) 0 0 d (omega (arith, whole m 0 d l)) ∙ zero-mod m
+
+-- For s and s′ below m, the difference s′ - s, here the remainder of s′ + (m - s).
+module _ (m s s′ : ℕ) (low : s < m) (low′ : s′ < m) where
+  -- s and the difference to s′ are s′.
+  pub difference-reaches : (s + (s′ + (m - s)) % m) % m ≡ s′
+  difference-reaches =
+      let e : s + (s′ + (m - s)) ≡ s′ + m = omega arith in
+      add-mod-mod s (s′ + (m - s)) m ∙ ap (λ t. t % m) e ∙ add-mod-right s′ m ∙ mod-eq-of-lt low′
+
+  -- There and back is no difference.
+  pub difference-back : ((s′ + (m - s)) % m + (s + (m - s′)) % m) % m ≡ 0
+  difference-back =
+      let e : s′ + (m - s) + (s + (m - s′)) ≡ 2 * m = omega arith in
+      mod-add-mod (s′ + (m - s)) m _ ∙ add-mod-mod (s′ + (m - s)) _ m ∙ ap (λ t. t % m) e ∙ mul-mod-left 2 m
 
 -- For x and a below m, x - a, here x + (m - a), is zero modulo m only where x is a.
 pub difference-some : (m x a : ℕ) → x < m → a < m → x ≢ a → (x + (m - a)) % m ≢ 0
@@ -258,3 +256,33 @@ module _ (q : ℕ) where
       inverseBy-fuel x (suc x) x (omega arith) (omega arith)
       ∙ inverseBy-step x x l
       ∙ ap (λ t. (q - q / x) * t % q) (inverseBy-fuel x (q % x) (q % x) (omega arith) (omega arith))
+
+module _ (q : ℕ) (P : Prime q) where
+  -- The inverse is below q.
+  pub inverse-below : (x : ℕ) → inverse q x < q
+  inverse-below x =
+      let big = P .big in
+      ⊎-elim
+      (λ t. rw (inverse-step q x (ltb-true 1 x t)) (mod-lt _ (omega arith)))
+      (λ t. rw (inverse-small q x (ltb-false 1 x t)) big)
+      (decide (ltb 1 x))
+
+  -- 1 - x / x is 0.
+  pub one-less : (x : ℕ) → 0 < x → x < q → (1 + (q - inverse q x) * x) % q ≡ 0
+  one-less x some l =
+      let i = inverse q x in
+      let e : q - i + i ≡ q = omega (arith, inverse-below x) in
+      let all : x * i + (q - i) * x ≡ q * x = omega (arith, ap (λ t. t * x) e) in
+      add-cong q 1 (x * i) _ _ (mod-eq-of-lt (P .big) ∙ sym (inverse-right q P x some l)) refl
+      ∙ ap (λ t. t % q) all
+      ∙ mul-mod-right q x
+
+-- ---- numbers k to a row
+
+-- Number j k + l is number l of row j.
+module _ (k j l : ℕ) (h : l < k) where
+  pub row-of : (j * k + l) / k ≡ j
+  row-of = mul-add-div-right (omega arith) j l ∙ ap (λ t. j + t) (div-eq-of-lt h) ∙ add-zero j
+
+  pub column-of : (j * k + l) % k ≡ l
+  column-of = mul-add-mod-self-right j k l ∙ mod-eq-of-lt h

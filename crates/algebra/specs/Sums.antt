@@ -1,7 +1,8 @@
 -- Sums and products over the indices below k: how they are joined, scaled, exchanged and raised, and their remainders.
 --
 -- In order: sums, and sums compared; products; powers of products and products of powers; remainders taken at each term or factor, or only
--- once; a turn of a loop that takes the remainder each time; sums and products that are zero modulo m, and one that is not.
+-- once; a turn of a loop that takes the remainder each time; sums and products that are zero modulo m, and one that is not; sums whose
+-- terms move.
 -- Not here: `-zero`, `-more`, `-same` (`folds`).
 -- Assumes nothing.
 use mathlib.Core.Path.{_≡_, refl, sym, ap, _∙_}
@@ -191,3 +192,20 @@ pub prod-some : (q : ℕ) → Prime q → (k : ℕ) (f : ℕ → ℕ) → ((i : 
 unfolding prodBelow
 prod-some q P zero f h e = let one : 1 % q ≡ 1 = mod-eq-of-lt (P .big) in omega arith
 prod-some q P (suc k) f h e = h k (omega arith) (no-zero-divisor q P _ (f k) (prod-some q P k f (λ i l. h i (omega arith))) e)
+
+-- Where each c i moves by d z i w, the value at x moves by d z(x) w.
+pub sum-moves : (q k d w x : ℕ) (c c′ z : ℕ → ℕ) → ((i : ℕ) → i < k → c′ i ≡ (c i + d * (z i * w)) % q)
+    → sumBelow k (λ i. c′ i * x ^ i) % q ≡ (sumBelow k (λ i. c i * x ^ i) % q + d * (sumBelow k (λ i. z i * x ^ i) % q * w)) % q
+sum-moves q k d w x c c′ z h =
+    let S = sumBelow k (λ i. c i * x ^ i) in
+    let Z = sumBelow k (λ i. z i * x ^ i) in
+    let term : (i : ℕ) → i < k → (c′ i * x ^ i) % q ≡ (c i * x ^ i + d * w * (z i * x ^ i)) % q =
+    λ i l.
+    let e : (c i + d * (z i * w)) * x ^ i ≡ c i * x ^ i + d * w * (z i * x ^ i) = omega arith in
+    ap (λ t. (t * x ^ i) % q) (h i l) ∙ mod-mul-mod (c i + d * (z i * w)) (x ^ i) q ∙ ap (λ t. t % q) e in
+    let turn : d * w * (Z % q) ≡ d * (Z % q * w) = omega arith in
+    sum-cong q k _ _ term
+    ∙ ap (λ t. t % q) (sum-add k _ _ ∙ ap (λ t. S + t) (sym (sum-scale k (d * w) (λ i. z i * x ^ i))))
+    ∙ sym (mod-add-mod S q (d * w * Z))
+    ∙ add-cong q (S % q) (S % q) _ _ refl (sym (mul-mod-mod (d * w) Z q))
+    ∙ ap (λ t. (S % q + t) % q) turn

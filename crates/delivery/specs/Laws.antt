@@ -6,12 +6,12 @@
 -- Assumes nothing.
 use mathlib.Core.Bool.{Bool, true, false, not}
 use mathlib.Core.List.{List, []}
-use mathlib.Core.Path.{_≡_, refl, ap, _∙_}
+use mathlib.Core.Path.{_≡_, refl, sym, ap, subst, _∙_}
 use Prim.Native.Nat.{ℕ, _+_, _-_, _<_, _≤_}
 use native.Mathlib.Omega.{arith}
 use lib.Dec.{eqb, leb}
 use lib.ListN.{length}
-use borrow.Author.Tests.{le-leb}
+use borrow.Author.Tests.{eqb-true, eqb-false, le-leb}
 use Rattle.folds.specs.Tests.{_and_, _or_, and-false, pick-either}
 use Rattle.rules.specs.declared.Element.{Element}
 use Rattle.rules.specs.declared.Four.{Four}
@@ -21,7 +21,7 @@ use Rattle.rules.specs.declared.Pair.{Pair}
 use Rattle.rules.specs.declared.Polynomials.{Polynomials}
 use Rattle.rules.specs.declared.Record.{Record}
 use Rattle.rules.specs.Messages.{Message, send, echo, ready, recovery, tagIn, hasMatrix, wholeLength, matrixIn, polynomialsIn, fourIn, pairIn, messageIn, written}
-use Rattle.rules.specs.Dealing.{matrixPasses, pairBelow, polynomialCheck, pointCheck}
+use Rattle.rules.specs.Dealing.{matrixPasses, fourBelow, pairBelow, polynomialCheck, pointCheck}
 use Rattle.rules.specs.Record.{groupIn, heardFor, sharesKept}
 use Rattle.rules.specs.Steps.{Step, heard, sharing, recovering, shareStep, messageStep}
 use Rattle.rules.specs.Answers.{firstOf, done, accepted, refused, outcomeOf, answered, exponentsKeep, shareChecks, checks, refusalHeard}
@@ -84,6 +84,22 @@ module _ (k : ℕ) (bytes : List ℕ) where
   pub is-share : tagIn bytes ≡ 4 → messageIn k bytes ≡ recovery (pairIn bytes)
   unfolding messageIn
   is-share e = rw e
+
+  -- rows 9 and 10 ask the same of an echo and of a ready
+  module _ {tag : ℕ} (tagged : tagIn bytes ≡ tag) (low : 2 ≤ tag) (high : tag ≤ 3) where
+    as-both : (P : Message → Type 0) → P (echo (matrixIn k bytes) (fourIn k bytes)) → P (ready (matrixIn k bytes) (fourIn k bytes))
+        → (b : Bool) → eqb (tagIn bytes) 2 ≡ b → P (messageIn k bytes)
+    as-both P p r true e = subst P (sym (is-echo (eqb-true (tagIn bytes) 2 e))) p
+    as-both P p r false e = let n = eqb-false (tagIn bytes) 2 e in subst P (sym (is-ready (omega (arith, tagged, low, high, n)))) r
+
+    pub point-keeps : (q : ℕ) → exponentsKeep q k (messageIn k bytes) ≡ fourBelow q (fourIn k bytes)
+    point-keeps q = as-both (λ M. exponentsKeep q k M ≡ fourBelow q (fourIn k bytes)) refl refl _ refl
+
+    pub point-checks : (x : Record) (m : ℕ)
+        → checks x m (messageIn k bytes) ≡ pointCheck (groupIn x) (x .setup .k) (matrixIn k bytes) (x .setup .i) m (fourIn k bytes)
+    point-checks x m =
+        as-both (λ M. checks x m M ≡ pointCheck (groupIn x) (x .setup .k) (matrixIn k bytes) (x .setup .i) m (fourIn k bytes))
+        refl refl _ refl
 
 -- ---- the first row that holds
 

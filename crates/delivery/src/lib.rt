@@ -6,7 +6,7 @@ use rules::Pair;
 use rules::Record;
 ghost use mathlib.Core.Path.{_≡_};
 ghost use mathlib.Core.Bool.{true};
-ghost use Prim.Native.Nat.{_+_};
+ghost use Prim.Native.Nat.{_+_, _≤_};
 ghost use Rattle.rules.specs.Messages.{tagIn};
 ghost use Rattle.rules.specs.Record.{groupIn, sound};
 ghost use Rattle.rules.specs.Answers.{done, shareChecks};
@@ -33,8 +33,9 @@ pub fn deliver_send(x: Record, m: usize, bytes: &[u8], out: &mut [u8]) -> Outcom
     steps::take::take_send(out, x, m, c, all)
 }
 
-pub fn deliver_echo(x: Record, m: usize, bytes: &[u8], out: &mut [u8]) -> Outcome
-    requires { ⌜ Late x (m + 1) (now bytes) (now out) × (tagIn (now bytes) ≡ 2) ⌝ }
+// An echo or a ready: they differ in the step that takes them.
+pub fn deliver_point(x: Record, tag: u8, m: usize, bytes: &[u8], out: &mut [u8]) -> Outcome
+    requires { ⌜ Late x (m + 1) (now bytes) (now out) × (tagIn (now bytes) ≡ tag) × (2 ≤ tag) × (tag ≤ 3) ⌝ }
     ensures { λ o. ⌜ done o (now (out .exit)) ≡ late x (m + 1) (now (bytes .entry)) (now (out .entry)) ⌝ }
 {
     let u = x.setup;
@@ -42,35 +43,17 @@ pub fn deliver_echo(x: Record, m: usize, bytes: &[u8], out: &mut [u8]) -> Outcom
     let group = numbers::group_of(u);
     let c = messages::read::read_matrix(bytes, k);
     if !checking::matrix_passes(group, k, c) {
-        return steps::take::refuse(anew::heard_for(x, 2, m), 8);
+        return steps::take::refuse(anew::heard_for(x, tag as usize, m), 8);
     }
     let four = messages::read::read_four(bytes, k);
     if !checking::four_below(group.q, four) {
-        return steps::take::refuse(anew::heard_for(x, 2, m), 9);
+        return steps::take::refuse(anew::heard_for(x, tag as usize, m), 9);
     }
     if !checking::point_check(group, k, c, u.i as u16, m as u16 + 1, four) {
-        return steps::take::refuse(anew::heard_for(x, 2, m), 10);
+        return steps::take::refuse(anew::heard_for(x, tag as usize, m), 10);
     }
-    steps::take::take_echo(out, x, m, c, four)
-}
-
-pub fn deliver_ready(x: Record, m: usize, bytes: &[u8], out: &mut [u8]) -> Outcome
-    requires { ⌜ Late x (m + 1) (now bytes) (now out) × (tagIn (now bytes) ≡ 3) ⌝ }
-    ensures { λ o. ⌜ done o (now (out .exit)) ≡ late x (m + 1) (now (bytes .entry)) (now (out .entry)) ⌝ }
-{
-    let u = x.setup;
-    let k = u.k as usize;
-    let group = numbers::group_of(u);
-    let c = messages::read::read_matrix(bytes, k);
-    if !checking::matrix_passes(group, k, c) {
-        return steps::take::refuse(anew::heard_for(x, 3, m), 8);
-    }
-    let four = messages::read::read_four(bytes, k);
-    if !checking::four_below(group.q, four) {
-        return steps::take::refuse(anew::heard_for(x, 3, m), 9);
-    }
-    if !checking::point_check(group, k, c, u.i as u16, m as u16 + 1, four) {
-        return steps::take::refuse(anew::heard_for(x, 3, m), 10);
+    if tag == 2 {
+        return steps::take::take_echo(out, x, m, c, four);
     }
     steps::take::take_ready(out, x, m, c, four)
 }

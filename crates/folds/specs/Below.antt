@@ -2,13 +2,13 @@
 --
 -- In order: `allBelow`, `anyBelow`, `firstFrom`, `countBelow`, `sumBelow`, `prodBelow`, `foldBelow`. Each has `-zero` (the
 -- loop starts), `-more` (one turn) and the laws of its ways out. The laws over a whole range stand behind them: what a fold
--- says of each index, what a store in the list that it reads keeps, what one more index adds.
+-- says of each index, tests that agree at each, what a store in the list that it reads keeps, what one more index adds.
 -- Not here: how sums and products are joined, split and exchanged (`algebra`).
 -- Assumes nothing.
 use Prim.Native.Nat.{ℕ, zero, suc, _+_, _-_, _*_, _<_, _≤_}
 use native.Mathlib.Nat.{le-of-suc-le-suc, not-suc-le-zero, eq-or-lt-of-le}
 use native.Mathlib.Numerals.{add-one}
-use native.Mathlib.Decide.{ℕ-discrete}
+use native.Mathlib.Decide.{ℕ-discrete, decLt}
 use native.Mathlib.Omega.{arith}
 use mathlib.Core.Bool.{Bool, true, false}
 use mathlib.Core.List.{List}
@@ -16,7 +16,7 @@ use mathlib.Core.Logic.{⊎-elim, _⊎_, inl, inr}
 use mathlib.Core.Path.{_≡_, refl, sym, ap, ap₂, _∙_}
 use lib.ListN.{length, getD, set}
 use lib.Seq.{getD-set-same, getD-set-other}
-use Rattle.folds.specs.Tests.{_and_, _or_, pick, and-left, and-right, and-intro, and-false, true≢false, or-cases, or-left, or-right, false-unless}
+use Rattle.folds.specs.Tests.{_and_, _or_, pick, and-left, and-right, and-intro, and-false, true≢false, not-true-and-false, or-cases, or-left, or-right, false-unless}
 
 -- every index below n passes p
 unfoldable pub allBelow : ℕ → (ℕ → Bool) → Bool
@@ -97,6 +97,11 @@ module _ (p : ℕ → Bool) where
       go : (allBelow n p ≡ false → (i : ℕ) × (i < n) × (p i ≡ false)) → (b : Bool) → p n ≡ b → b and allBelow n p ≡ false → (i : ℕ) × (i < suc n) × (p i ≡ false)
       go ih true e g = let w = ih g in (w .0, (let z = w .1 in omega arith), w .2)
       go ih false e g = (n, omega arith, e)
+
+  pub allBelow-same : (q : ℕ → Bool) (n : ℕ) → ((i : ℕ) → i < n → p i ≡ q i) → allBelow n p ≡ allBelow n q
+  unfolding allBelow
+  allBelow-same q zero h = refl
+  allBelow-same q (suc n) h = ap₂ _and_ (h n (omega arith)) (allBelow-same q n (λ i l. h i (omega arith)))
 
   -- ---- anyBelow
 
@@ -183,6 +188,11 @@ module _ (p : ℕ → Bool) where
       go ih false e l (inl q) = sym (ap p q) ∙ e
       go ih false e l (inr q) = ih (omega arith) l
 
+  pub firstFrom-same : (q : ℕ → Bool) → ((i : ℕ) → p i ≡ q i) → (n i : ℕ) → firstFrom n i p ≡ firstFrom n i q
+  unfolding firstFrom
+  firstFrom-same q h zero i = refl
+  firstFrom-same q h (suc n) i = ap₂ (λ b j. pick b i j) (h i) (firstFrom-same q h n (i + 1))
+
   -- ---- countBelow
 
   pub countBelow-zero : countBelow 0 p ≡ 0
@@ -250,6 +260,19 @@ module _ (p : ℕ → Bool) where
       go : (b : Bool) → p n ≡ b → countBelow n p ≤ countBelow n q → countBelow n p + pick b 1 0 ≤ countBelow n q + pick (q n) 1 0
       go true e l = rw (h n (omega arith) e) (omega arith)
       go false e l = omega arith
+
+  -- from n on none passes: those below n count alone
+  pub countBelow-beyond : (n m : ℕ) → ((i : ℕ) → i < m → n ≤ i → p i ≡ false) → n ≤ m → countBelow m p ≡ countBelow n p
+  unfolding countBelow
+  countBelow-beyond n zero h l = let e : n ≡ zero = omega arith in rw e
+  countBelow-beyond n (suc m) h l =
+      ⊎-elim
+      (λ e. rw e)
+      (λ (lt : n < suc m).
+      let none : p m ≡ false = h m (omega arith) (omega arith) in
+      let ih = countBelow-beyond n m (λ i g. h i (omega arith)) (omega arith) in
+      rw none (omega arith))
+      (eq-or-lt-of-le l)
 
   -- at most one passes exactly if any two that pass are one
   pub countBelow-one : (n : ℕ) → ((i j : ℕ) → i < n → j < n → p i ≡ true → p j ≡ true → i ≡ j) → countBelow n p ≤ 1
@@ -327,6 +350,14 @@ module _ {A : Type 0} (f : ℕ → A → A) (a : A) where
   pub foldBelow-more : (i : ℕ) → foldBelow (i + 1) f a ≡ f i (foldBelow i f a)
   unfolding foldBelow
   foldBelow-more i = rw (add-one i)
+
+-- a test of m that fails from n on passes only below n
+pub passes-below : (m n : ℕ) (b : Bool) → b ≡ true → (n ≤ m → b ≡ false) → m < n
+passes-below m n b e h = go (decLt m n)
+  where
+    go : Dec (m < n) → m < n
+    go (yes l) = l
+    go (no l) = absurd (not-true-and-false b e (h (omega arith)))
 
 -- an element anew: what held of every element holds still
 module _ {A : Type 0} (P : A → Bool) (d : A) where

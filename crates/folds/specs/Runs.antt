@@ -1,16 +1,17 @@
 -- Runs of bytes one behind the other (`gather`), and runs of stores (`sets` of `lib.Seq`: l with vs stored from index i).
 --
 -- In order: the definition; stores behind stores; stores in a lent tail, said of the whole; a loop that writes one run after the other;
--- where a run stands in another (`Stands`); what holds of every element (`Every`); the first k of one more element.
+-- where a run stands in another (`Stands`); runs of one element each; what holds of every element (`Every`); the first k of one more
+-- element; runs changed element by element.
 -- Assumes nothing.
 use Prim.Native.Nat.{ℕ, zero, suc, _+_, _-_, _*_, _<_, _≤_, suc-le-suc}
-use native.Mathlib.Nat.{le-refl, add-zero, add-suc, zero-mul, suc-mul, not-suc-le-zero, le-of-suc-le-suc, eq-or-lt-of-le}
+use native.Mathlib.Nat.{le-refl, add-zero, add-suc, zero-mul, suc-mul, mul-one, not-suc-le-zero, le-of-suc-le-suc, eq-or-lt-of-le}
 use native.Mathlib.Numerals.{add-one}
 use native.Mathlib.Omega.{arith}
 use mathlib.Core.Bool.{Bool, true, false}
 use mathlib.Core.Logic.{⊎-elim}
 use mathlib.Core.Path.{_≡_, refl, sym, ap, ap₂, subst, _∙_}
-use mathlib.Core.List.{List, [], _∷_, _++_, append-assoc, append-nil}
+use mathlib.Core.List.{List, [], _∷_, _++_, map, map-append, append-assoc, append-nil}
 use lib.Dec.{leb}
 use lib.ListN.{length, set, getD, take, drop, length-append, length-take, length-drop, take-append-drop, drop-of-length-le}
 use lib.Seq.{take-all, take-append-le, getD-take, sets, sets-eq, drop-set-add, take-set-le, drop-drop, drop-at, drop-cons, getD-drop}
@@ -188,6 +189,18 @@ module _ {A : Type 0} (s : List A) where
         (stands-at r (p + (w + w)) c (omega arith) hc))
         (stands-at t (p + (w + w + w)) d (omega arith) hd)
 
+-- f 0, f 1, .. f (n - 1), an element each
+module _ {A : Type 0} (n : ℕ) (f : ℕ → A) where
+  pub length-singles : length (gather n (λ i. f i ∷ [])) ≡ n
+  length-singles = length-gather (λ i. f i ∷ []) 1 (λ i. refl) n ∙ mul-one n
+
+  pub getD-singles : (i : ℕ) (d : A) → i < n → getD (gather n (λ i. f i ∷ [])) i d ≡ f i
+  getD-singles i d l =
+      let all = gather n (λ i. f i ∷ []) in
+      let whole : Stands all 0 all = ([], sym (append-nil all)) in
+      stands-reads all i (f i) d []
+      (stands-at all (0 + i * 1) i (f i ∷ []) (omega arith) (stands-piece all (λ i. f i ∷ []) 1 (λ i. refl) 0 n i l whole))
+
 -- every element has P
 abbrev pub Every : {A : Type 0} → (A → Type 0) → A → List A → Type 0
 Every P d l = (i : ℕ) → i < length l → P (getD l i d)
@@ -236,3 +249,15 @@ module _ {A : Type 0} (k : ℕ) (l : List A) where
           let m = length-take k l in
           let n = length-append l (x ∷ []) in
           take-all k (l ++ x ∷ []) (omega arith) ∙ ap (λ (t : List A). t ++ x ∷ []) (sym (take-all k l (omega arith)))
+
+-- each element changed: of the first k, and of runs one behind the other
+module _ {A B : Type 0} (f : A → B) where
+  pub map-take : (k : ℕ) (l : List A) → map f (take k l) ≡ take k (map f l)
+  map-take zero l = refl
+  map-take (suc k) [] = refl
+  map-take (suc k) (x ∷ l) = ap (λ (t : List B). f x ∷ t) (map-take k l)
+
+  pub map-gather : (g : ℕ → List A) (n : ℕ) → map f (gather n g) ≡ gather n (λ i. map f (g i))
+  unfolding gather
+  map-gather g zero = refl
+  map-gather g (suc n) = map-append f (gather n g) (g n) ∙ ap (λ (t : List B). t ++ map f (g n)) (map-gather g n)

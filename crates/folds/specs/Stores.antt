@@ -1,10 +1,11 @@
 -- Arrays filled from the front: `stores n f l` is l with f 0, f 1, .. f (n - 1) stored one after the other.
 --
 -- In order: the definition; what a loop that fills an array uses (`-zero`, `-more`, `-turn`, `-left`); its length; what stands at
--- each index; what one store leaves true of each index; an array filled from a list, and one more element of the list.
+-- each index; what one store leaves true of each index; an array filled from a list, and one more element of the list; arrays changed
+-- element by element (`map`, and `mapFrom` by the index), and a store in them.
 -- Assumes nothing.
 use Prim.Native.Nat.{ℕ, zero, suc, _+_, _<_, _≤_}
-use native.Mathlib.Nat.{le-of-suc-le-suc, not-suc-le-zero, eq-or-lt-of-le, lt-irrefl}
+use native.Mathlib.Nat.{add-zero, le-of-suc-le-suc, not-suc-le-zero, eq-or-lt-of-le, lt-irrefl}
 use native.Mathlib.Decide.{ℕ-discrete}
 use native.Mathlib.Numerals.{add-one}
 use native.Mathlib.Omega.{arith}
@@ -103,3 +104,37 @@ pub getD-map-part : {A B C : Type 0} (f : A → B) (g : B → C) (d : B) (l : Li
 getD-map-part f g d [] i = refl
 getD-map-part f g d (x ∷ l) zero = refl
 getD-map-part f g d (x ∷ l) (suc i) = getD-map-part f g d l i
+
+module _ {A B : Type 0} (f : A → B) where
+  pub map-set : (l : List A) (i : ℕ) (v : A) → map f (set l i v) ≡ set (map f l) i (f v)
+  map-set [] i v = refl
+  map-set (x ∷ l) zero v = refl
+  map-set (x ∷ l) (suc i) v = ap (λ (t : List B). f x ∷ t) (map-set l i v)
+
+  -- within the list no default counts
+  pub map-at : (d : A) (e : B) (l : List A) (i : ℕ) → i < length l → getD (map f l) i e ≡ f (getD l i d)
+  map-at d e [] i h = absurd (not-suc-le-zero h)
+  map-at d e (x ∷ l) zero h = refl
+  map-at d e (x ∷ l) (suc i) h = map-at d e l i (le-of-suc-le-suc h)
+
+-- f m, f (m + 1), .. of the elements, one after the other
+unfoldable pub mapFrom : {A : Type 0} → (ℕ → A → A) → ℕ → List A → List A
+mapFrom f m [] = []
+mapFrom f m (x ∷ l) = f m x ∷ mapFrom f (suc m) l
+
+module _ {A : Type 0} (f : ℕ → A → A) where
+  pub getD-mapFrom : (d : A) → ((m : ℕ) → f m d ≡ d) → (l : List A) (m i : ℕ) → getD (mapFrom f m l) i d ≡ f (m + i) (getD l i d)
+  unfolding mapFrom
+  getD-mapFrom d h [] m i = sym (h (m + i))
+  getD-mapFrom d h (x ∷ l) m zero = ap (λ (j : ℕ). f j x) (sym (add-zero m))
+  getD-mapFrom d h (x ∷ l) m (suc i) =
+      let e : suc m + i ≡ m + suc i = omega arith in
+      getD-mapFrom d h l (suc m) i ∙ ap (λ (j : ℕ). f j (getD l i d)) e
+
+  pub mapFrom-set : (l : List A) (m i : ℕ) (v : A) → mapFrom f m (set l i v) ≡ set (mapFrom f m l) i (f (m + i) v)
+  unfolding mapFrom
+  mapFrom-set [] m i v = refl
+  mapFrom-set (x ∷ l) m zero v = ap (λ (j : ℕ). f j v ∷ mapFrom f (suc m) l) (sym (add-zero m))
+  mapFrom-set (x ∷ l) m (suc i) v =
+      let e : suc m + i ≡ m + suc i = omega arith in
+      ap (λ (t : List A). f m x ∷ t) (mapFrom-set l (suc m) i v ∙ ap (λ (j : ℕ). set (mapFrom f (suc m) l) i (f j v)) e)

@@ -59,6 +59,10 @@ pub and-false : (b : Bool) → b and false ≡ false
 and-false true = refl
 and-false false = refl
 
+pub and-true : (b : Bool) → b and true ≡ b
+and-true true = refl
+and-true false = refl
+
 -- a fails or b passes
 pub and-not : (a b : Bool) → (a ≡ true → b ≡ true) → a and not b ≡ false
 and-not true b h = ap not (h refl)
@@ -125,6 +129,12 @@ false-unless false h = refl
 pub pick-either {ℓ} : {A : Type 0} (P : A → Type ℓ) (b : Bool) (x y : A) → (b ≡ true → P x) → (b ≡ false → P y) → P (pick b x y)
 pick-either P true x y f g = f refl
 pick-either P false x y f g = g refl
+
+-- what one test picks of two pairs is as they are, each where it is picked
+pub pick-two : {A : Type 0} (R : A → A → Type 0) (b : Bool) (x y x′ y′ : A) → (b ≡ true → R x x′) → (b ≡ false → R y y′)
+    → R (pick b x y) (pick b x′ y′)
+pick-two R true x y x′ y′ f g = f refl
+pick-two R false x y x′ y′ f g = g refl
 
 -- ---- tests in code
 

@@ -6,22 +6,17 @@ use rules::Kept;
 use rules::Pair;
 use rules::Place;
 use rules::Point;
-ghost use mathlib.Core.Path.{_≡_};
-ghost use Prim.Native.Nat.{_+_, _≤_};
-ghost use Rattle.rules.specs.Record.{sharesKept};
+ghost use Prim.Native.Nat.{_≤_};
 
 // ---- shares
 
-fn none_kept() -> [Keep; 10]
-    ensures { λ r. ⌜ sharesKept r ≡ 0 ⌝ }
-{
+fn none_kept() -> [Keep; 10] {
     let absent = Keep { kept: Kept::Absent };
     [absent; 10]
 }
 
 fn also_kept(keeps: [Keep; 10], m: usize, share: Pair) -> [Keep; 10]
     requires { ⌜ (1 ≤ m) × (m ≤ 10) ⌝ }
-    ensures { λ r. ⌜ sharesKept r ≤ sharesKept keeps + 1 ⌝ }
 {
     let mut made = keeps;
     let keep = Keep {
@@ -38,7 +33,7 @@ pub fn from_two(q: u16, of_1: Pair, m: usize, of_m: Pair) -> Pair
     let none = none_kept();
     let one = also_kept(none, 1, of_1);
     let two = also_kept(one, m, of_m);
-    interpolation::recovered_from(q, two)
+    interpolation::recovered_from(q, 2, two)
 }
 
 // The shares of boxes 2, 4 and 5.
@@ -49,7 +44,7 @@ pub fn from_three(q: u16, of_2: Pair, of_4: Pair, of_5: Pair) -> Pair
     let one = also_kept(none, 2, of_2);
     let two = also_kept(one, 4, of_4);
     let three = also_kept(two, 5, of_5);
-    interpolation::recovered_from(q, three)
+    interpolation::recovered_from(q, 3, three)
 }
 
 // ---- points

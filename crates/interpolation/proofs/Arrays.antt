@@ -1,15 +1,14 @@
--- The arrays of a list: what stands in them, what one more point or share adds, and a turn of the loop that collects them.
+-- The arrays of a list: what one more point or share adds, and a turn of the loop that collects them.
 -- Assumes nothing.
 use mathlib.Core.Bool.{Bool, true, false}
-use mathlib.Core.List.{List, [], _∷_, _++_, map, append-nil}
+use mathlib.Core.List.{List, [], _∷_, _++_, append-nil}
 use mathlib.Core.Path.{_≡_, refl, ap, sym}
-use Prim.Native.Nat.{ℕ, _+_, _≤_, _<_}
-use native.Mathlib.Omega.{arith}
+use Prim.Native.Nat.{ℕ, _+_}
 use lib.Dec.{leb}
-use lib.ListN.{length, getD, set, take, replicate, length-append}
+use lib.ListN.{length, set, take, replicate, length-append}
 use lib.Seq.{take-nil}
 use Rattle.folds.specs.Tests.{pick}
-use Rattle.folds.specs.Stores.{stores, getD-stores, stores-list-more}
+use Rattle.folds.specs.Stores.{stores, stores-list-more}
 use Rattle.folds.specs.Runs.{take-more}
 use Rattle.rules.specs.declared.Four.{Four}
 use Rattle.rules.specs.declared.Keep.{Keep}
@@ -22,16 +21,10 @@ use Rattle.rules.specs.declared.Point.the-variants.{Silent, Held}
 use Rattle.rules.specs.Steps.{Said, pointAt, keptAt}
 use Rattle.interpolation.specs.Points.{inArray, noPoints, withPoint, heldPoint, considered, pointsOf, noShares, withShare, keptShare, consideredShare, sharesOf}
 
-module _ {A B : Type 0} (zero : B) (f : A → B) (l : List A) where
-  -- One more element is one more store.
-  pub inArray-more : (x : A) → inArray zero f (l ++ x ∷ []) ≡ set (inArray zero f l) (length l) (f x)
-  unfolding inArray
-  inArray-more x = stores-list-more f zero (replicate 8 zero) l x
-
-  -- What was stored stands there.
-  pub inArray-at : length l ≤ 8 → (i : ℕ) → i < length l → getD (inArray zero f l) i zero ≡ getD (map f l) i zero
-  unfolding inArray
-  inArray-at h i lt = getD-stores (λ i. getD (map f l) i zero) (replicate 8 zero) (length l) i zero lt (omega arith)
+-- One more element is one more store.
+inArray-more : {A B : Type 0} (zero : B) (f : A → B) (l : List A) (x : A) → inArray zero f (l ++ x ∷ []) ≡ set (inArray zero f l) (length l) (f x)
+unfolding inArray
+inArray-more zero f l x = stores-list-more f zero (replicate 8 zero) l x
 
 -- ---- points
 
@@ -61,24 +54,24 @@ considered-more k m ps place = go (leb k (length (take k ps))) refl (place .poin
 -- ---- shares
 
 -- No keep has been looked at.
-pub sharesOf-none : noShares ≡ sharesOf []
+pub sharesOf-none : (k : ℕ) → noShares ≡ sharesOf (take k [])
 unfolding sharesOf inArray stores
-sharesOf-none = refl
+sharesOf-none k = rw (take-nil k)
 
 -- One more share.
 pub sharesOf-more : (ps : List (Said Pair)) (p : Said Pair) → sharesOf (ps ++ p ∷ []) ≡ withShare (sharesOf ps) (p .box) (p .says)
 unfolding sharesOf withShare
 sharesOf-more ps p = simp (inArray-more, length-append)
 
--- One more keep, of which a share is taken if it holds one and fewer than 8 are taken.
-pub consideredShare-more : (m : ℕ) (ps : List (Said Pair)) (keep : Keep)
-    → consideredShare (sharesOf (take 8 ps)) (m + 1) keep ≡ sharesOf (take 8 (ps ++ keptAt m (keep .kept)))
+-- One more keep, of which a share is taken if it holds one and fewer than k are taken.
+pub consideredShare-more : (k m : ℕ) (ps : List (Said Pair)) (keep : Keep)
+    → consideredShare k (sharesOf (take k ps)) (m + 1) keep ≡ sharesOf (take k (ps ++ keptAt m (keep .kept)))
 unfolding consideredShare sharesOf
-consideredShare-more m ps keep = go (leb 8 (length (take 8 ps))) refl (keep .kept)
+consideredShare-more k m ps keep = go (leb k (length (take k ps))) refl (keep .kept)
   where
-    go : (b : Bool) → leb 8 (length (take 8 ps)) ≡ b → (kept : Kept)
-        → pick b (sharesOf (take 8 ps)) (keptShare (sharesOf (take 8 ps)) (m + 1) kept) ≡ sharesOf (take 8 (ps ++ keptAt m kept))
-    go true e Absent = ap (λ (l : List (Said Pair)). sharesOf (take 8 l)) (sym (append-nil ps))
-    go false e Absent = ap (λ (l : List (Said Pair)). sharesOf (take 8 l)) (sym (append-nil ps))
-    go true e (There s) = rw (take-more 8 ps, e)
-    go false e (There s) = rw (take-more 8 ps, e) (sym (sharesOf-more (take 8 ps) (record { box = m + 1; says = s })))
+    go : (b : Bool) → leb k (length (take k ps)) ≡ b → (kept : Kept)
+        → pick b (sharesOf (take k ps)) (keptShare (sharesOf (take k ps)) (m + 1) kept) ≡ sharesOf (take k (ps ++ keptAt m kept))
+    go true e Absent = ap (λ (l : List (Said Pair)). sharesOf (take k l)) (sym (append-nil ps))
+    go false e Absent = ap (λ (l : List (Said Pair)). sharesOf (take k l)) (sym (append-nil ps))
+    go true e (There s) = rw (take-more k ps, e)
+    go false e (There s) = rw (take-more k ps, e) (sym (sharesOf-more (take k ps) (record { box = m + 1; says = s })))

@@ -24,9 +24,8 @@ use Rattle.rules.specs.Matrices.{coefficient}
 use Rattle.rules.specs.Record.{silent, shareAt}
 use Rattle.rules.specs.Steps.{Said, pointAt, points, keptAt, sharePoints, through}
 use Rattle.rules.specs.Laws.Matrices.{coefficient-at}
-use Rattle.interpolation.specs.Points.{boxAt, inArray}
+use Rattle.interpolation.specs.Points.{boxAt, inArray, inArray-at}
 use Rattle.interpolation.specs.Weights.{weightRow, weightedSum}
-use Rattle.interpolation.proofs.Arrays.{inArray-at}
 
 -- The sum that Lagrange's weights weigh is the interpolation.
 pub weighted-interpolates : (q count : ℕ) (boxes : List ℕ) (x : ℕ) (y : List Exponent) → count ≤ 8
@@ -92,9 +91,11 @@ points-numbered a k places =
     one m h Silent = none-numbered a
     one m h (Held f) = one-numbered a m h f
 
-pub shares-numbered : (a : Pair) (keeps : List Keep) → Numbered a (sharePoints keeps)
+pub shares-numbered : (a : Pair) (k : ℕ) (keeps : List Keep) → Numbered a (take k (sharePoints keeps))
 unfolding sharePoints
-shares-numbered a keeps = gather-numbered a (λ m. keptAt m (shareAt keeps m)) (λ m h. one m h (shareAt keeps m))
+shares-numbered a k keeps =
+    every-take (λ p. p .box ≤ 10) (nobody a) k _
+    (gather-numbered a (λ m. keptAt m (shareAt keeps m)) (λ m h. one m h (shareAt keeps m)))
   where
     one : (m : ℕ) → m < 10 → (kept : Kept) → Numbered a (keptAt m kept)
     one m h Absent = none-numbered a

@@ -1,11 +1,13 @@
 -- Points and shares as arrays with a count: one more of them, and the arrays of a list.
 -- Assumes nothing.
 use mathlib.Core.List.{List, map}
-use Prim.Native.Nat.{ℕ, _+_}
+use mathlib.Core.Path.{_≡_}
+use Prim.Native.Nat.{ℕ, _+_, _≤_, _<_}
+use native.Mathlib.Omega.{arith}
 use lib.Dec.{leb}
 use lib.ListN.{length, getD, set, replicate}
 use Rattle.folds.specs.Tests.{pick}
-use Rattle.folds.specs.Stores.{stores}
+use Rattle.folds.specs.Stores.{stores, getD-stores}
 use Rattle.rules.specs.declared.Four.{Four}
 use Rattle.rules.specs.declared.Keep.{Keep}
 use Rattle.rules.specs.declared.Kept.{Kept}
@@ -25,6 +27,12 @@ boxAt boxes j = getD boxes j 0
 -- one thing of each of a list, in the first places of an array of 8
 unfoldable pub inArray : {A B : Type 0} → B → (A → B) → List A → List B
 inArray zero f l = stores (length l) (λ i. getD (map f l) i zero) (replicate 8 zero)
+
+-- what was stored stands there
+pub inArray-at : {A B : Type 0} (zero : B) (f : A → B) (l : List A) → length l ≤ 8 → (i : ℕ) → i < length l
+    → getD (inArray zero f l) i zero ≡ getD (map f l) i zero
+unfolding inArray
+inArray-at zero f l h i lt = getD-stores (λ i. getD (map f l) i zero) (replicate 8 zero) (length l) i zero lt (omega arith)
 
 -- ---- points
 
@@ -86,8 +94,8 @@ abbrev pub keptShare : Shares → ℕ → Kept → Shares
 keptShare p number Absent = p
 keptShare p number (There s) = withShare p number s
 
-unfoldable pub consideredShare : Shares → ℕ → Keep → Shares
-consideredShare p number keep = pick (leb 8 (p .count)) p (keptShare p number (keep .kept))
+unfoldable pub consideredShare : ℕ → Shares → ℕ → Keep → Shares
+consideredShare k p number keep = pick (leb k (p .count)) p (keptShare p number (keep .kept))
 
 unfoldable pub sharesOf : List (Said Pair) → Shares
 sharesOf ps =

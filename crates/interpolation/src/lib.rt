@@ -12,7 +12,6 @@ ghost use Prim.Native.Nat.{ℕ, _≤_, _<_};
 ghost use lib.ListN.{take};
 ghost use Rattle.algebra.specs.Interpolation.{others};
 ghost use Rattle.rules.specs.Numbers.{exponent};
-ghost use Rattle.rules.specs.Record.{sharesKept};
 ghost use Rattle.rules.specs.Steps.{points, sharePoints, pairFrom, readyFour, recoveredFrom};
 ghost use Rattle.interpolation.specs.Points.{
   noPoints,
@@ -139,10 +138,13 @@ fn with_share(all: Shares, number: u16, pair: Pair) -> Shares
     made
 }
 
-fn consider_share(all: Shares, number: u16, keep: Keep) -> Shares
-    ensures { λ r. ⌜ r ≡ consideredShare all number keep ⌝ }
+// One more keep, of the box with this number; at most k are taken.
+fn consider_share(all: Shares, k: usize, number: u16, keep: Keep) -> Shares
+    requires { ⌜ k ≤ 8 ⌝ }
+    ensures { λ r. ⌜ r ≡ consideredShare k all number keep ⌝ }
 {
-    if 8 <= all.count {
+    let taken = all.count;
+    if k <= taken {
         return all;
     }
     let kept = keep.kept;
@@ -152,16 +154,17 @@ fn consider_share(all: Shares, number: u16, keep: Keep) -> Shares
     }
 }
 
-// The recovery shares kept, the lowest eight boxes' if there are more.
-pub fn shares_of(keeps: [Keep; 10]) -> Shares
-    ensures { λ r. ⌜ r ≡ sharesOf (take 8 (sharePoints keeps)) ⌝ }
+// The recovery shares kept, the k lowest boxes' if there are more.
+pub fn shares_of(keeps: [Keep; 10], k: usize) -> Shares
+    requires { ⌜ k ≤ 8 ⌝ }
+    ensures { λ r. ⌜ r ≡ sharesOf (take k (sharePoints keeps)) ⌝ }
 {
     let mut made = no_shares();
     let mut m: usize = 0;
     let mut number: u16 = 1;
     while m < 10 {
         let keep = keeps[m];
-        made = consider_share(made, number, keep);
+        made = consider_share(made, k, number, keep);
         m += 1;
         number += 1;
     }
@@ -296,12 +299,12 @@ pub fn ready_from(q: u16, k: usize, n: usize, places: [Place; 10]) -> Ready
     }
 }
 
-// The pair that k kept recovery shares give.
-pub fn recovered_from(q: u16, keeps: [Keep; 10]) -> Pair
-    requires { ⌜ (10 ≤ q) × (sharesKept keeps ≤ 8) ⌝ }
-    ensures { λ r. ⌜ r ≡ recoveredFrom q (sharePoints keeps) ⌝ }
+// The pair that the recovery shares of the k lowest boxes give.
+pub fn recovered_from(q: u16, k: usize, keeps: [Keep; 10]) -> Pair
+    requires { ⌜ (10 ≤ q) × (k ≤ 8) ⌝ }
+    ensures { λ r. ⌜ r ≡ recoveredFrom q (take k (sharePoints keeps)) ⌝ }
 {
-    let all = shares_of(keeps);
+    let all = shares_of(keeps, k);
     let count = all.count;
     let boxes = all.boxes;
     let inverse = inverses(q, count, boxes);

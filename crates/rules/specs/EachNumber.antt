@@ -42,7 +42,7 @@ numbers x (c ∷ cs) =
     o .answer .no ∷ numbers (o .next) cs
 
 -- the point that box m sends to box 1
-abbrev point : ℕ → Four
+abbrev pub point : ℕ → Four
 point m = echoFour 11 2 (dealt 5 coins m) 1
 
 -- a matrix of entries that are no elements

@@ -196,3 +196,12 @@ pub struct Outcome {
     pub answer: Answer,
     pub next: Record,
 }
+
+// ---- The recovery sheet
+
+// What the sheet says of a box: silent, verified, or refused with this number.
+pub enum Verdict {
+    Silent,
+    Verified,
+    Refused(u8),
+}

@@ -1,3 +1,2 @@
--- The laws that the proofs of the calls share.
-pub mod Refusals
+-- What is known of a delivery past each refusal.
 pub mod Past

@@ -29,10 +29,10 @@ header k bytes z =
     (pick-either (λ n. 6 ≤ n) (eqb (tagIn bytes) 1) _ _ (λ e. omega arith)
     (λ e. pick-either (λ n. 6 ≤ n) (eqb (tagIn bytes) 4) _ _ (λ e. omega arith) (λ e. omega arith)))
 
--- and one of four tags: it is 4 where it is not 1, 2 or 3
-pub last-tag : (k : ℕ) (bytes : List ℕ) → malformed k bytes ≡ false
-    → (tagIn bytes ≡ 1 → ⊥) → (tagIn bytes ≡ 2 → ⊥) → (tagIn bytes ≡ 3 → ⊥) → tagIn bytes ≡ 4
-last-tag k bytes z n₁ n₂ n₃ = let c = formed k bytes z in omega (arith, c .low, c .high, n₁, n₂, n₃)
+-- and one of four tags: it is 2 or 3 where it is not 1 or 4
+pub point-tag : (k : ℕ) (bytes : List ℕ) → malformed k bytes ≡ false
+    → (tagIn bytes ≡ 1 → ⊥) → (tagIn bytes ≡ 4 → ⊥) → (2 ≤ tagIn bytes) × (tagIn bytes ≤ 3)
+point-tag k bytes z n₁ n₄ = let c = formed k bytes z in omega (arith, c .low, c .high, n₁, n₄)
 
 module _ (x : Record) (sender : ℕ) (bytes buffer : List ℕ) where
   -- a refusal that leaves the record as it came

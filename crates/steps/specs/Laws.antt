@@ -5,14 +5,13 @@
 -- Assumes nothing.
 use mathlib.Core.Bool.{true}
 use mathlib.Core.List.{List, []}
-use mathlib.Core.Logic.{⊎-elim}
 use mathlib.Core.Path.{_≡_, refl, ap, ap₂, _∙_}
 use Prim.Native.Nat.{ℕ, _+_, _-_, _*_, _<_, _≤_}
 use native.Mathlib.Omega.{arith}
 use lib.Dec.{eqb, ltb}
 use lib.ListN.{length, getD, replicate}
 use borrow.Author.Tests.{eqb-true, ltb-true, eq-eqb, ne-eqb, lt-ltb, le-ltb}
-use Rattle.folds.specs.Tests.{pick, or-cases, and-false, and-left, and-right}
+use Rattle.folds.specs.Tests.{pick, and-false, and-left, and-right}
 use Rattle.folds.specs.Runs.{gather-same}
 use Rattle.folds.specs.Stores.{getD-stores}
 use Rattle.rules.specs.declared.Element.{Element}
@@ -24,14 +23,14 @@ use Rattle.rules.specs.declared.Sent.{Sent}
 use Rattle.rules.specs.declared.Sent.the-variants.{Nothing}
 use Rattle.rules.specs.declared.SetUp.{SetUp}
 use Rattle.rules.specs.declared.Slot.{Slot}
-use Rattle.rules.specs.Numbers.{groups, groupOf, groupKeeps, echoQuorum}
+use Rattle.rules.specs.Numbers.{groupKeeps, echoQuorum}
 use Rattle.rules.specs.Matrices.{toBoxes}
 use Rattle.rules.specs.Messages.{Message, bytesOf, toEach, written}
 use Rattle.rules.specs.Dealing.{coinsKeep}
 use Rattle.rules.specs.Record.{groupIn, slotAt, countE, countR, sound}
 use Rattle.rules.specs.Steps.{Step, ownSlot, freeSlot, slotFor, heard, opened, echoed, readied, sending, quiet, withSlot, lowest, readySent, echoAt, echoStep, completed, readyAt, readyStep}
 use Rattle.rules.specs.Answers.{accepted}
-use Rattle.rules.specs.Laws.Numbers.{bounds}
+use Rattle.rules.specs.Laws.Numbers.{GroupRanges, bounds, group-sizes}
 use Rattle.rules.specs.Laws.Matrices.{square-some}
 use Rattle.rules.specs.Laws.Sound.{sound-facts}
 use Rattle.messages.specs.Written.{toBox}
@@ -47,21 +46,6 @@ pub record Ranges (u : SetUp) : Type 0 where
   pub high : u .k ≤ 8
   pub dealer : u .d < 256
   pub session : u .session < 65536
-
--- of its group
-pub record GroupRanges (G : Group) : Type 0 where
-  pub modulus : 0 < G .p
-  pub some : 0 < G .q
-  pub order : 10 ≤ G .q
-  pub small : G .q < 65536
-
-in-table : (u : SetUp) → groupKeeps u ≡ true → GroupRanges (groupOf (u .group))
-unfolding groupKeeps groupOf groups
-in-table u h =
-    ⊎-elim
-    (λ e. rw (eqb-true (u .group) 1 e) (record { modulus = omega arith; some = omega arith; order = omega arith; small = omega arith }))
-    (λ e. rw (eqb-true (u .group) 2 e) (record { modulus = omega arith; some = omega arith; order = omega arith; small = omega arith }))
-    (or-cases (eqb (u .group) 1) (eqb (u .group) 2) h)
 
 pub ranges : (x : Record) → sound x ≡ true → Ranges (x .setup)
 ranges x h =
@@ -79,7 +63,7 @@ ranges x h =
     }
 
 pub group-ranges : (x : Record) {G : Group} → sound x ≡ true → G ≡ groupIn x → GroupRanges G
-group-ranges x h e = rw e (in-table (x .setup) (sound-facts x h .group))
+group-ranges x h e = rw e (group-sizes (x .setup) (sound-facts x h .group))
 
 -- a sender's index has its place
 pub place-of : (x : Record) (m : ℕ) → sound x ≡ true → m < x .setup .n → m < 10

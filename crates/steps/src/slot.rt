@@ -9,10 +9,13 @@ use rules::Place;
 use rules::Point;
 use rules::Record;
 use rules::Row;
+use rules::SetUp;
 use rules::Slot;
 ghost use mathlib.Core.Path.{_≡_};
 ghost use mathlib.Core.List.{map};
 ghost use Prim.Native.Nat.{_≤_, _<_};
+ghost use lib.Dec.{eqb};
+ghost use Rattle.folds.specs.Tests.{pick};
 ghost use Rattle.rules.specs.Steps.{rowOf, opened, echoed, readied, keeping, slotFor};
 ghost use Rattle.steps.specs.Found.{ownIn, freeIn, heldBy};
 
@@ -22,7 +25,7 @@ fn own_slot(slots: [Slot; 20], k: usize, c: [[Element; 8]; 8]) -> usize
     ensures { λ r. ⌜ r ≡ ownIn slots k c ⌝ }
 {
     let mut s: usize = 0;
-    while s < 20 {
+    while s < SetUp::SLOTS {
         let slot = slots[s];
         if slot.used {
             let rows = slot.rows;
@@ -33,21 +36,21 @@ fn own_slot(slots: [Slot; 20], k: usize, c: [[Element; 8]; 8]) -> usize
         }
         s += 1;
     }
-    20
+    SetUp::SLOTS
 }
 
 fn free_slot(slots: [Slot; 20]) -> usize
     ensures { λ r. ⌜ r ≡ freeIn slots ⌝ }
 {
     let mut s: usize = 0;
-    while s < 20 {
+    while s < SetUp::SLOTS {
         let slot = slots[s];
         if !slot.used {
             return s;
         }
         s += 1;
     }
-    20
+    SetUp::SLOTS
 }
 
 pub fn slot_for(x: Record, c: [[Element; 8]; 8]) -> usize
@@ -57,7 +60,7 @@ pub fn slot_for(x: Record, c: [[Element; 8]; 8]) -> usize
     let u = x.setup;
     let slots = x.slots;
     let own = own_slot(slots, u.k as usize, c);
-    if own < 20 {
+    if own < SetUp::SLOTS {
         return own;
     }
     free_slot(slots)
@@ -71,7 +74,7 @@ fn rows_of(c: [[Element; 8]; 8]) -> [Row; 8]
     };
     let mut rows = [zero; 8];
     let mut j: usize = 0;
-    while j < 8 {
+    while j < SetUp::WIDTH {
         let at = c[j];
         rows[j] = Row { at };
         j += 1;
@@ -117,32 +120,23 @@ fn held(place: Place, four: Four) -> Place
     }
 }
 
-// A checked echo of sender m + 1.
-pub fn with_echo(slot: Slot, m: usize, four: Four) -> Slot
+// A checked point of sender m + 1: of an echo where the tag is 2, else of a ready.
+pub fn with_point(slot: Slot, tag: u8, m: usize, four: Four) -> Slot
     requires { ⌜ m < 10 ⌝ }
-    ensures { λ r. ⌜ r ≡ echoed slot m four ⌝ }
+    ensures { λ r. ⌜ r ≡ pick (eqb tag 2) (echoed slot m four) (readied slot m four) ⌝ }
 {
     let old = slot.places[m];
     let place = held(old, four);
-    let mut marks = slot.echoed;
-    marks.at[m] = true;
     let mut made = slot;
     made.places[m] = place;
-    made.echoed = marks;
-    made
-}
-
-// A checked ready of sender m + 1.
-pub fn with_ready(slot: Slot, m: usize, four: Four) -> Slot
-    requires { ⌜ m < 10 ⌝ }
-    ensures { λ r. ⌜ r ≡ readied slot m four ⌝ }
-{
-    let old = slot.places[m];
-    let place = held(old, four);
+    if tag == 2 {
+        let mut marks = slot.echoed;
+        marks.at[m] = true;
+        made.echoed = marks;
+        return made;
+    }
     let mut marks = slot.readied;
     marks.at[m] = true;
-    let mut made = slot;
-    made.places[m] = place;
     made.readied = marks;
     made
 }

@@ -116,7 +116,7 @@ pub fn take_echo(out: &mut [u8], x: Record, m: usize, c: [[Element; 8]; 8], four
     let s = slot::slot_for(x, c);
     let old = x.slots[s];
     let open = slot::opened_for(c, old);
-    let fresh = slot::with_echo(open, m, four);
+    let fresh = slot::with_point(open, 2, m, four);
     let u = x.setup;
     let echoed = fresh.echoed;
     let readied = fresh.readied;
@@ -159,7 +159,7 @@ pub fn take_ready(out: &mut [u8], x: Record, m: usize, c: [[Element; 8]; 8], fou
     let s = slot::slot_for(x, c);
     let old = x.slots[s];
     let open = slot::opened_for(c, old);
-    let fresh = slot::with_ready(open, m, four);
+    let fresh = slot::with_point(open, 3, m, four);
     let u = x.setup;
     let echoed = fresh.echoed;
     let readied = fresh.readied;
@@ -189,7 +189,7 @@ pub fn take_share(x: Record, m: usize, pair: Pair) -> Outcome
     shares[m] = share;
     if slots::count_shares(shares) == u.k {
         let group = numbers::group_of(u);
-        let found = interpolation::recovered_from(group.q, shares);
+        let found = interpolation::recovered_from(group.q, u.k as usize, shares);
         let recovered = Keep {
             kept: Kept::There(found),
         };

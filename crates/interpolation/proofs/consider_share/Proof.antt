@@ -1,4 +1,6 @@
--- `consider_share` takes the share of one more keep, if it holds one and fewer than 8 are taken. Assumes nothing.
+-- `consider_share` takes the share of one more keep, if it holds one and fewer than k are taken. Assumes nothing.
+use Prim.Native.Nat.{_≤_}
+use native.Mathlib.Omega.{arith}
 use borrow.Author.Needs.{needs}
 use borrow.Author.Tests.{le-leb, lt-leb}
 use Rattle.interpolation.specs.Points.{consideredShare}
@@ -7,7 +9,9 @@ use Rattle.interpolation.proofs.consider_share.Tie as tie
 
 returns : tie.Need-returns
 unfolding consideredShare
-returns c = rw (le-leb _ _ (c .if1 .taken))
+returns c =
+    let full : c .before .args .k ≤ c .before .args .all .count = omega arith in
+    rw (le-leb _ _ full)
 
 enum-told : tie.Need-enum-told
 enum-told c = search needs

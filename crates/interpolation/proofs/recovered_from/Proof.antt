@@ -1,21 +1,15 @@
--- `recovered_from` is the pair interpolated at 0 from the recovery shares kept, which are at most eight. Assumes nothing.
+-- `recovered_from` is the pair interpolated at 0 from the recovery shares of the k lowest boxes. Assumes nothing.
 use mathlib.Core.List.{List}
-use mathlib.Core.Path.{_≡_, refl, ap, _∙_}
+use mathlib.Core.Path.{_≡_}
 use Prim.Native.Nat.{ℕ, _≤_}
 use native.Mathlib.Omega.{arith}
-use lib.ListN.{length, take}
-use lib.Seq.{take-all}
+use lib.ListN.{length, take, length-take}
 use borrow.Author.Needs.{needs}
-use Rattle.folds.specs.Tests.{pick}
-use Rattle.folds.specs.Runs.{length-gather-count}
 use Rattle.rules.specs.declared.Exponent.{Exponent}
 use Rattle.rules.specs.declared.Keep.{Keep}
-use Rattle.rules.specs.declared.Kept.{Kept}
-use Rattle.rules.specs.declared.Kept.the-variants.{Absent, There}
 use Rattle.rules.specs.declared.Pair.{Pair}
 use Rattle.rules.specs.Numbers.{exponent}
-use Rattle.rules.specs.Record.{isThere, shareAt, sharesKept}
-use Rattle.rules.specs.Steps.{keptAt, sharePoints, recoveredFrom}
+use Rattle.rules.specs.Steps.{sharePoints, recoveredFrom}
 use Rattle.interpolation.specs.declared.Shares.{Shares}
 use Rattle.interpolation.specs.Points.{sharesOf}
 use Rattle.interpolation.specs.Weights.{weightRow, weightedSum}
@@ -23,44 +17,30 @@ use Rattle.interpolation.proofs.Values.{weighted-interpolates, arrays-t
 use Rattle.interpolation.proofs.recovered_from.Statement.{statement}
 use Rattle.interpolation.proofs.recovered_from.Tie as tie
 
--- there are as many as are kept
-length-sharePoints : (keeps : List Keep) → length (sharePoints keeps) ≡ sharesKept keeps
-unfolding sharePoints sharesKept
-length-sharePoints keeps =
-    length-gather-count (λ m. keptAt m (shareAt keeps m)) (λ m. isThere (shareAt keeps m)) (λ m. one m (shareAt keeps m)) 10
-  where
-    one : (m : ℕ) (kept : Kept) → length (keptAt m kept) ≡ pick (isThere kept) 1 0
-    one m Absent = refl
-    one m (There s) = refl
-
 abbrev zeroPair : Pair
 zeroPair = record { first = exponent 0; second = exponent 0 }
 
-module _ (q : ℕ) (keeps : List Keep) (big : 10 ≤ q) (small : sharesKept keeps ≤ 8) (all : Shares) (collected : all ≡ sharesOf (take 8 (sharePoints keeps))) where
-  few : length (sharePoints keeps) ≤ 8
-  few = omega (arith, length-sharePoints keeps)
-
-  -- the first eight are all
-  every : all ≡ sharesOf (sharePoints keeps)
-  every = collected ∙ ap sharesOf (take-all 8 (sharePoints keeps) few)
+module _ (q k : ℕ) (keeps : List Keep) (big : 10 ≤ q) (small : k ≤ 8) (all : Shares) (found : all ≡ sharesOf (take k (sharePoints keeps))) where
+  few : length (take k (sharePoints keeps)) ≤ 8
+  few = omega (arith, length-take k (sharePoints keeps))
 
   -- what the functions of the weights ask of the shares
   asked : Asked q (all .count) (all .boxes)
   unfolding sharesOf
-  asked = rw every (boxes-asked zeroPair q big (sharePoints keeps) few (shares-numbered zeroPair keeps))
+  asked = rw found (boxes-asked zeroPair q big (take k (sharePoints keeps)) few (shares-numbered zeroPair k keeps))
 
   -- what the weights give is what the list gives
   recovered : (w : List Exponent) → w ≡ weightRow q (all .count) (all .boxes) 0
       → _≡_ {A = Pair} (record { first = exponent (weightedSum q (all .count) w (all .first)); second = exponent (weightedSum q (all .count) w (all .second)) })
-      (recoveredFrom q (sharePoints keeps))
+      (recoveredFrom q (take k (sharePoints keeps)))
   unfolding sharesOf recoveredFrom
   recovered w e =
-      let ps = sharePoints keeps in
+      let ps = take k (sharePoints keeps) in
       rw (
         e,
         weighted-interpolates q (all .count) (all .boxes) 0 (all .first) (asked .1),
         weighted-interpolates q (all .count) (all .boxes) 0 (all .second) (asked .1),
-        every,
+        found,
         arrays-through q ps (λ (s : Pair). s .first) 0 few,
         arrays-through q ps (λ (s : Pair). s .second) 0 few,
       )
@@ -68,7 +48,7 @@ module _ (q : ℕ) (keeps : List Keep) (big : 10 ≤ q) (small : sharesKept keep
 found-asked : (c : tie.After-shares-of) → Asked (c .before .args .q) (c .shares-of .result .count) (c .shares-of .result .boxes)
 found-asked c =
     let start = c .before in
-    asked (start .args .q) (start .args .keeps) (start .pre .0) (start .pre .1) (c .shares-of .result) (c .shares-of .ensures)
+    asked (start .args .q) (start .args .k) (start .args .keeps) (start .pre .0) (start .pre .1) (c .shares-of .result) (c .shares-of .ensures)
 
 shares-of-requires : tie.Need-shares-of-requires
 shares-of-requires c κs = search needs
@@ -96,7 +76,7 @@ returns c =
     let start = c .before .before .before .before .before .before .before .before in
     let found = c .before .before .before .before .before .before .before .shares-of in
     let weights = c .before .before .before .before .weights in
-    let pair = recovered (start .args .q) (start .args .keeps) (start .pre .0) (start .pre .1) (found .result) (found .ensures) in
+    let pair = recovered (start .args .q) (start .args .k) (start .args .keeps) (start .pre .0) (start .pre .1) (found .result) (found .ensures) in
     rw (c .before .weighted .ensures, c .weighted2 .ensures) (pair (weights .result) (weights .ensures))
 
 pub recovered-from-spec : {M : Type 1} → statement M

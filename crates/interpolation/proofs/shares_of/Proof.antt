@@ -1,4 +1,4 @@
--- `shares_of` has the recovery shares kept, at most the eight lowest boxes'. The loop's invariant: it has those of the first
+-- `shares_of` has the recovery shares kept, at most the k lowest boxes'. The loop's invariant: it has those of the first
 -- m keeps, and the next box's number is m + 1. Assumes nothing.
 use mathlib.Core.List.{List}
 use mathlib.Core.Path.{_≡_, sym, ap, _∙_}
@@ -21,11 +21,11 @@ abbrev sharesAt : List Keep → ℕ → List (Said Pair)
 sharesAt keeps i = keptAt i (shareAt keeps i)
 
 abbrev Inv-loop : tie.InvT-loop
-Inv-loop keeps made₀ m₀ number₀ made m number =
-    (m ≤ 10) × (number ≡ m + 1) × (made ≡ sharesOf (take 8 (gather m (sharesAt keeps))))
+Inv-loop k keeps made₀ m₀ number₀ made m number =
+    (m ≤ 10) × (number ≡ m + 1) × (made ≡ sharesOf (take k (gather m (sharesAt keeps))))
 
 abbrev μ-loop : tie.MeasureT-loop
-μ-loop keeps made₀ m₀ number₀ made m number = 10 - m
+μ-loop k keeps made₀ m₀ number₀ made m number = 10 - m
 
 no-shares-requires : tie.Need-no-shares-requires Inv-loop μ-loop
 no-shares-requires c κs = search needs
@@ -35,8 +35,8 @@ loop-holds c = (
   omega arith,
   omega arith,
   c .no-shares .ensures
-      ∙ sharesOf-none
-      ∙ ap (λ (l : List (Said Pair)). sharesOf (take 8 l)) (sym (gather-zero (sharesAt (c .before .args .t1)))),
+      ∙ sharesOf-none (c .before .args .k)
+      ∙ ap (λ (l : List (Said Pair)). sharesOf (take (c .before .args .k) l)) (sym (gather-zero (sharesAt (c .before .args .t1)))),
 )
 
 mul-keep : tie.Need-mul-keep Inv-loop μ-loop
@@ -59,14 +59,15 @@ loop-less c = search needs
 
 loop-again : tie.Need-loop-again Inv-loop μ-loop
 loop-again c =
+    let k = c .before .before .before .before .before .args .k in
     let keeps = c .before .before .before .before .before .args .t1 in
     let loop = c .before .before .before .loop in
     let m = loop .m in (
       omega arith,
       omega arith,
       rw (loop .inv .2, loop .inv .1) at (c .consider-share .ensures)
-          ∙ consideredShare-more m (gather m (sharesAt keeps)) (getD keeps m nothing)
-          ∙ ap (λ (l : List (Said Pair)). sharesOf (take 8 l)) (sym (gather-more (sharesAt keeps) m)),
+          ∙ consideredShare-more k m (gather m (sharesAt keeps)) (getD keeps m nothing)
+          ∙ ap (λ (l : List (Said Pair)). sharesOf (take k l)) (sym (gather-more (sharesAt keeps) m)),
     )
 
 returns : tie.Need-returns Inv-loop μ-loop

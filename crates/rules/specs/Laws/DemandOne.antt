@@ -1,7 +1,7 @@
 -- Demand 1: every call gets a numbered answer; a refused call writes nothing, and changes the record only by the "heard" mark.
 --
--- In order: the first row of a table that holds; (a) and (c), which number each call gives; (b), what a refusal leaves;
--- and that two outcomes which a call's promise allows are equal.
+-- In order: the first row of a table that holds; (a) and (c), which number each call gives; an answer by its number; (b), what a
+-- refusal leaves; and that two outcomes which a call's promise allows are equal.
 -- Assumes nothing.
 use mathlib.Core.Path.{_≡_, refl, sym, ap, _∙_, subst}
 use mathlib.Core.Bool.{Bool, true, false, not}
@@ -13,7 +13,7 @@ use lib.Dec.{eqb, leb}
 use native.Mathlib.Decide.{ℕ-discrete}
 use lib.ListN.{length, getD, set}
 use lib.Seq.{getD-set-same, getD-set-other}
-use borrow.Author.Tests.{eqb-true, eqb-false, ne-eqb, le-leb, leb-true, not-true}
+use borrow.Author.Tests.{eqb-true, eqb-false, ne-eqb, le-leb, leb-true, not-true, eq-eqb}
 use Rattle.folds.specs.Tests.{_and_, _or_, pick, pick-true, pick-false, true≢false, and-left, and-right, or-cases, decide}
 use Rattle.rules.specs.declared.Marks.{Marks}
 use Rattle.rules.specs.declared.Record.{Record}
@@ -21,7 +21,7 @@ use Rattle.rules.specs.declared.SetUp.{SetUp}
 use Rattle.rules.specs.declared.Sent.the-variants.{Nothing}
 use Rattle.rules.specs.declared.Answer.{Answer}
 use Rattle.rules.specs.declared.Outcome.{Outcome}
-use Rattle.rules.specs.Messages.{tagIn, hasMatrix}
+use Rattle.rules.specs.Messages.{tagIn, hasMatrix, written}
 use Rattle.rules.specs.Record.{noMarks, marked, heardFor, zeroRecord}
 use Rattle.rules.specs.Steps.{Step, mark, heard}
 use Rattle.rules.specs.Laws.Shape.{Shaped}
@@ -140,6 +140,28 @@ pub deliver-number : (x : Record) (sender : ℕ) (bytes buffer : List ℕ)
     → ByTable (15 ∷ 12 ∷ 1 ∷ 2 ∷ 3 ∷ 4 ∷ 5 ∷ 6 ∷ 7 ∷ 8 ∷ 9 ∷ 10 ∷ []) (deliverRows x sender bytes buffer) (deliver x sender bytes buffer .outcome .answer .no)
 unfolding deliver deliverRows answered distinct lacks
 deliver-number x sender bytes buffer = by-table _ _ _ refl refl refl (outcome-number _ _ _)
+
+-- ---- an answer by its number
+
+module _ (n : ℕ) (x : Step) (after : Record) (buffer : List ℕ) where
+  -- It is the step's where the number is 0,
+  pub answered-accepted : n ≡ 0 → answered n x after buffer ≡ done (accepted x) (written (x .bytes) buffer)
+  unfolding answered outcomeOf
+  answered-accepted e = rw (eq-eqb n 0 e)
+
+  -- else a refusal;
+  pub answered-refused : n ≢ 0 → answered n x after buffer ≡ done (refused n after) buffer
+  unfolding answered outcomeOf
+  answered-refused z = rw (ne-eqb n 0 z)
+
+  -- so it is as both would be.
+  pub answered-either : (P : Done → Type 0) → (n ≡ 0 → P (done (accepted x) (written (x .bytes) buffer))) → (n ≢ 0 → P (done (refused n after) buffer))
+      → P (answered n x after buffer)
+  answered-either P a b = go (ℕ-discrete n 0)
+    where
+      go : Dec (n ≡ 0) → P (answered n x after buffer)
+      go (yes e) = subst P (sym (answered-accepted e)) (a e)
+      go (no z) = subst P (sym (answered-refused z)) (b z)
 
 -- ---- (b): what a refusal leaves
 

@@ -2,29 +2,29 @@
 --
 -- In the modules below, over the facts of a sound record (`Facts`, `Sound`): the slot of an echo or ready (`OpenSlot`,
 -- `TakenSlot`); one part of the record anew (`Changes`); the checked messages (`Checked`). Here: the order of refusals; what
--- a call leaves; the theorem for each call.
+-- a call leaves; for each call what it has passed where it is accepted, and the theorem.
 -- Assumes nothing.
-use mathlib.Core.Path.{_≡_, refl}
+use mathlib.Core.Path.{_≡_, refl, sym, subst}
 use mathlib.Core.Bool.{Bool, true, false, not}
 use mathlib.Core.List.{List, _∷_}
 use mathlib.Core.Logic.{⊎-elim}
 use Prim.Native.Nat.{ℕ, _-_, _<_, _≤_}
 use native.Mathlib.Omega.{arith}
 use lib.Dec.{eqb, leb}
-use borrow.Author.Tests.{le-leb, eq-eqb, leb-true, eqb-true, eqb-false, not-false}
+use borrow.Author.Tests.{le-leb, eq-eqb, leb-true, eqb-true, not-false}
 use Rattle.folds.specs.Tests.{_and_, _or_, and-left, and-right, and-rest, or-false, or-cases, pick-either}
 use Rattle.rules.specs.declared.SetUp.{SetUp}
 use Rattle.rules.specs.declared.Record.{Record}
-use Rattle.rules.specs.declared.Outcome.{Outcome}
 use Rattle.rules.specs.Numbers.{isBox}
-use Rattle.rules.specs.Messages.{Message, send, echo, ready, recovery, tagIn, hasMatrix, matrixIn, polynomialsIn, fourIn, pairIn, messageIn}
-use Rattle.rules.specs.Dealing.{matrixPasses}
+use Rattle.rules.specs.Messages.{Message, tagIn, hasMatrix, matrixIn, pairIn, messageIn}
+use Rattle.rules.specs.Dealing.{matrixPasses, coinsKeep}
 use Rattle.rules.specs.Record.{groupIn, heardFor, isDone, isThere, sound}
 use Rattle.rules.specs.Steps.{Step, heard, sendStep, messageStep, dealStep, recoverStep}
-use Rattle.rules.specs.Answers.{Refusal, _when_, firstOf, accepted, refused, outcomeOf, answered, dealRows, deal, recoverRows, recover, exponentsKeep, deliverRows, refusalHeard, deliver}
+use Rattle.rules.specs.Answers.{Refusal, _when_, firstOf, accepted, refused, answered, dealRows, deal, recoverRows, recover, exponentsKeep, deliverRows, refusalHeard, deliver, checks, Done}
 use Rattle.rules.specs.Laws.Numbers.{is-box}
+use Rattle.rules.specs.Laws.DemandOne.{answered-either}
 use Rattle.rules.specs.Laws.Shape.{Shaped}
-use Rattle.rules.specs.Laws.RoundTrip.{formed}
+use Rattle.rules.specs.Laws.RoundTrip.{formed, Formed, by-tag, is-send, is-echo, is-ready, is-recovery}
 pub mod OpenSlot
 pub mod TakenSlot
 pub mod Changes
@@ -46,11 +46,11 @@ past v n false rows d e = (refl, e)
 
 answered-good : (n : ℕ) (st : Step) (after : Record) (buffer : List ℕ) → (n ≡ 0 → Good (st .after)) → ((n ≡ 0 → ⊥) → Good after)
     → Good (answered n st after buffer .outcome .next)
-unfolding answered outcomeOf accepted refused
-answered-good n st after buffer f g =
-    pick-either (λ (o : Outcome). Good (o .next)) (eqb n 0) (accepted st) (refused n after) (λ e. f (eqb-true n 0 e)) (λ e. g (eqb-false n 0 e))
+unfolding accepted refused
+answered-good n st after buffer = answered-either n st after buffer (λ (d : Done). Good (d .outcome .next))
 
-good-of : (x : Record) → sound x ≡ true → Shaped x → Good x
+-- A sound record whose arrays have their lengths is good.
+pub good-of : (x : Record) → sound x ≡ true → Shaped x → Good x
 good-of x h shape = record { facts = sound-facts x h; shape = shape }
 
 sound-of : (x : Record) → Good x → (sound x ≡ true) × Shaped x
@@ -58,13 +58,24 @@ sound-of x g = (facts-sound x (g .facts), g .shape)
 
 -- ---- the calls
 
-deal-good : (x : Record) (secret : ℕ) (coins buffer : List ℕ) → Good x → firstOf (dealRows x secret coins buffer) ≡ 0 → Good (dealStep x secret coins .after)
-unfolding dealRows dealStep
-deal-good x secret coins buffer g e =
+-- what the rows of the table leave of a deal that is accepted
+pub record DealPassed (x : Record) (secret : ℕ) (coins : List ℕ) : Type 0 where
+  pub dealer : eqb (x .setup .i) (x .setup .d) ≡ true
+  pub keeps : coinsKeep (groupIn x .q) (x .setup .k) secret coins ≡ true
+
+pub deal-passed : (x : Record) (secret : ℕ) (coins buffer : List ℕ) → firstOf (dealRows x secret coins buffer) ≡ 0 → DealPassed x secret coins
+unfolding dealRows
+deal-passed x secret coins buffer e =
     let r1 = past 0 15 _ _ (omega arith) e in
     let r2 = past 0 12 _ _ (omega arith) (r1 .1) in
     let r3 = past 0 13 _ _ (omega arith) (r2 .1) in
-    progress-good x _ g (g .facts .completion) (g .facts .commanded) (λ q. q) (λ q. not-false _ (or-false (not (eqb (x .setup .i) (x .setup .d))) _ (r3 .0) .0))
+    let r4 = past 0 14 _ _ (omega arith) (r3 .1) in
+    record { dealer = not-false _ (or-false (not (eqb (x .setup .i) (x .setup .d))) _ (r3 .0) .0); keeps = not-false _ (r4 .0) }
+
+deal-good : (x : Record) (secret : ℕ) (coins buffer : List ℕ) → Good x → firstOf (dealRows x secret coins buffer) ≡ 0 → Good (dealStep x secret coins .after)
+unfolding dealStep
+deal-good x secret coins buffer g e =
+    progress-good x _ g (g .facts .completion) (g .facts .commanded) (λ q. q) (λ q. deal-passed x secret coins buffer e .dealer)
 
 -- The record after a deal is sound.
 pub deal-kept : (x : Record) (secret : ℕ) (coins buffer : List ℕ) → sound x ≡ true → Shaped x
@@ -94,17 +105,20 @@ box-place : (u : SetUp) (sender : ℕ) → not (isBox u sender) ≡ false → se
 box-place u sender e = let b = is-box u sender (not-false _ e) in omega arith
 
 -- what the rows of the table leave of a delivery that is accepted
-record Passed (x : Record) (sender : ℕ) (bytes : List ℕ) : Type 0 where
-  within : sender - 1 < x .setup .n
-  tag : (1 ≤ tagIn bytes) × (tagIn bytes ≤ 4)
-  commanded : eqb (tagIn bytes) 4 and not (isDone (x .progress .completion) and x .progress .commanded) ≡ false
-  unrecovered : eqb (tagIn bytes) 4 and isThere (x .recovered .kept) ≡ false
-  unheard : heardFor x (tagIn bytes) (sender - 1) ≡ false
-  passes : hasMatrix (tagIn bytes) and not (matrixPasses (groupIn x) (x .setup .k) (matrixIn (x .setup .k) bytes)) ≡ false
-  exponents : exponentsKeep (groupIn x .q) (x .setup .k) (messageIn (x .setup .k) bytes) ≡ true
+pub record Passed (x : Record) (sender : ℕ) (bytes : List ℕ) : Type 0 where
+  pub box : isBox (x .setup) sender ≡ true
+  pub within : sender - 1 < x .setup .n
+  pub form : Formed (x .setup .k) bytes
+  pub dealer : tagIn bytes ≡ 1 → sender ≡ x .setup .d
+  pub commanded : tagIn bytes ≡ 4 → isDone (x .progress .completion) and x .progress .commanded ≡ true
+  pub unrecovered : tagIn bytes ≡ 4 → isThere (x .recovered .kept) ≡ false
+  pub unheard : heardFor x (tagIn bytes) (sender - 1) ≡ false
+  pub passes : tagIn bytes ≤ 3 → matrixPasses (groupIn x) (x .setup .k) (matrixIn (x .setup .k) bytes) ≡ true
+  pub exponents : exponentsKeep (groupIn x .q) (x .setup .k) (messageIn (x .setup .k) bytes) ≡ true
+  pub check : checks x sender (messageIn (x .setup .k) bytes) ≡ true
 
-rows-passed : (x : Record) (sender : ℕ) (bytes buffer : List ℕ) → firstOf (deliverRows x sender bytes buffer) ≡ 0 → Passed x sender bytes
-unfolding deliverRows
+pub rows-passed : (x : Record) (sender : ℕ) (bytes buffer : List ℕ) → firstOf (deliverRows x sender bytes buffer) ≡ 0 → Passed x sender bytes
+unfolding deliverRows hasMatrix
 rows-passed x sender bytes buffer e =
     let r1 = past 0 15 _ _ (omega arith) e in
     let r2 = past 0 12 _ _ (omega arith) (r1 .1) in
@@ -117,14 +131,18 @@ rows-passed x sender bytes buffer e =
     let r9 = past 0 7 _ _ (omega arith) (r8 .1) in
     let r10 = past 0 8 _ _ (omega arith) (r9 .1) in
     let r11 = past 0 9 _ _ (omega arith) (r10 .1) in
+    let r12 = past 0 10 _ _ (omega arith) (r11 .1) in
     record {
+      box = not-false _ (r3 .0);
       within = box-place (x .setup) sender (r3 .0);
-      tag = (formed (x .setup .k) bytes (r4 .0) .low, formed (x .setup .k) bytes (r4 .0) .high);
-      commanded = r7 .0;
-      unrecovered = r8 .0;
+      form = formed (x .setup .k) bytes (r4 .0);
+      dealer = λ q. eqb-true _ _ (not-false _ (and-rest _ _ (r6 .0) (eq-eqb (tagIn bytes) 1 q)));
+      commanded = λ q. not-false _ (and-rest _ _ (r7 .0) (eq-eqb (tagIn bytes) 4 q));
+      unrecovered = λ q. and-rest _ _ (r8 .0) (eq-eqb (tagIn bytes) 4 q);
       unheard = r9 .0;
-      passes = r10 .0;
+      passes = λ l. not-false _ (and-rest _ _ (r10 .0) (le-leb (tagIn bytes) 3 l));
       exponents = not-false _ (r11 .0);
+      check = not-false _ (r12 .0);
     }
 
 -- the sender of a refused delivery, where it is marked heard
@@ -156,36 +174,24 @@ module _ (x : Record) (sender : ℕ) (bytes : List ℕ) (h : sound x ≡ true) (
   TakenGood : Message → Type 0
   TakenGood msg = exponentsKeep (groupIn x .q) (x .setup .k) msg ≡ true → Good (messageStep x (sender - 1) msg .after)
 
-  unheard-for : (t : ℕ) → eqb (tagIn bytes) t ≡ true → heardFor x t (sender - 1) ≡ false
-  unheard-for t e = rw (eqb-true (tagIn bytes) t e) at (c .unheard)
-
-  passes-for : (t : ℕ) → eqb (tagIn bytes) t ≡ true → t ≤ 3 → matrixPasses (groupIn x) (x .setup .k) (matrixIn (x .setup .k) bytes) ≡ true
-  unfolding hasMatrix
-  passes-for t e l = not-false _ (and-rest _ _ (c .passes) (le-leb (tagIn bytes) 3 (let q = eqb-true (tagIn bytes) t e in omega arith)))
-
-  is-recovery : eqb (tagIn bytes) 1 ≡ false → eqb (tagIn bytes) 2 ≡ false → eqb (tagIn bytes) 3 ≡ false → eqb (tagIn bytes) 4 ≡ true
-  is-recovery a b d =
-      let p = eqb-false (tagIn bytes) 1 a in
-      let q = eqb-false (tagIn bytes) 2 b in
-      let r = eqb-false (tagIn bytes) 3 d in
-      let w = c .tag in
-      eq-eqb (tagIn bytes) 4 (omega arith)
+  of : (msg : Message) → messageIn (x .setup .k) bytes ≡ msg → TakenGood msg → Good (messageStep x (sender - 1) (messageIn (x .setup .k) bytes) .after)
+  unfolding TakenGood
+  of msg e f = subst TakenGood (sym e) f (c .exponents)
 
   message-good : Good (messageStep x (sender - 1) (messageIn (x .setup .k) bytes) .after)
-  unfolding messageIn sendStep TakenGood
+  unfolding sendStep TakenGood
   message-good =
-      pick-either TakenGood (eqb (tagIn bytes) 1) (send (matrixIn (x .setup .k) bytes) (polynomialsIn (x .setup .k) bytes)) _
-      (λ e below. heard-good x 1 (sender - 1) g (omega arith) (c .within))
-      (λ e1. pick-either TakenGood (eqb (tagIn bytes) 2) (echo (matrixIn (x .setup .k) bytes) (fourIn (x .setup .k) bytes)) _
-      (λ e below. echo-good x (sender - 1) h g (c .within) _ _ (matrix-fits (x .setup) bytes (passes-for 2 e (omega arith))) below (unheard-for 2 e))
-      (λ e2. pick-either TakenGood (eqb (tagIn bytes) 3) (ready (matrixIn (x .setup .k) bytes) (fourIn (x .setup .k) bytes)) (recovery (pairIn bytes))
-      (λ e below. ready-good x (sender - 1) h g (c .within) _ _ (matrix-fits (x .setup) bytes (passes-for 3 e (omega arith))) below (unheard-for 3 e))
-      (λ e3 below.
-      let e = is-recovery e1 e2 e3 in
-      recovery-good x (sender - 1) h g (c .within) (pairIn bytes) below (unheard-for 4 e)
-      (and-right (isDone (x .progress .completion)) _ (not-false _ (and-rest _ _ (c .commanded) e)))
-      (and-rest _ _ (c .unrecovered) e))))
-      (c .exponents)
+      let k = x .setup .k in
+      by-tag k bytes (c .form)
+      (λ e. of _ (is-send k bytes e) (λ below. heard-good x 1 (sender - 1) g (omega arith) (c .within)))
+      (λ e. of _ (is-echo k bytes e) (λ below.
+      echo-good x (sender - 1) h g (c .within) _ _ (matrix-fits (x .setup) bytes (c .passes (omega arith))) below (rw e at (c .unheard))))
+      (λ e. of _ (is-ready k bytes e) (λ below.
+      ready-good x (sender - 1) h g (c .within) _ _ (matrix-fits (x .setup) bytes (c .passes (omega arith))) below (rw e at (c .unheard))))
+      (λ e. of _ (is-recovery k bytes e) (λ below.
+      recovery-good x (sender - 1) h g (c .within) (pairIn bytes) below (rw e at (c .unheard))
+      (and-right (isDone (x .progress .completion)) _ (c .commanded e))
+      (c .unrecovered e)))
 
 -- The record after a delivery is sound.
 pub deliver-kept : (x : Record) (sender : ℕ) (bytes buffer : List ℕ) → sound x ≡ true → Shaped x

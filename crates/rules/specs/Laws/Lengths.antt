@@ -1,18 +1,18 @@
 -- How long a message is, how much a call sends, and what writing leaves of the lent buffer.
 --
--- In order: whole lengths; room ("no call ever needs more than 1,990 bytes"); the lent buffer.
+-- In order: whole lengths; room ("no call ever needs more than 1,990 bytes"), and where each of n messages stands; the lent buffer.
 -- Assumes nothing.
 use mathlib.Core.Bool.{Bool, true, false}
-use mathlib.Core.List.{List, _∷_, _++_}
+use mathlib.Core.List.{List, _∷_, _++_, [], append-nil}
 use mathlib.Core.Path.{_≡_, refl, sym, ap, _∙_}
 use Prim.Native.Nat.{ℕ, _+_, _-_, _*_, _≤_}
 use native.Mathlib.Nat.{mul-le-mul}
 use native.Mathlib.Omega.{arith}
 use lib.Dec.{eqb, ltb}
 use lib.ListN.{length, getD, take, drop, length-append, length-drop}
-use lib.Seq.{take-append-seam, getD-append-add, getD-drop}
+use lib.Seq.{take-append-seam, getD-append-add, getD-drop, take-at}
 use Rattle.folds.specs.Tests.{_and_, pick, and-right}
-use Rattle.folds.specs.Runs.{gather, length-gather, length-gather-le}
+use Rattle.folds.specs.Runs.{gather, length-gather, length-gather-le, stands-piece}
 use Rattle.rules.specs.declared.Exponent.{Exponent}
 use Rattle.rules.specs.declared.Element.{Element}
 use Rattle.rules.specs.declared.Four.{Four}
@@ -26,8 +26,8 @@ use Rattle.rules.specs.declared.Record.{Record}
 use Rattle.rules.specs.Numbers.{groupKeeps, echoQuorum}
 use Rattle.rules.specs.Matrices.{entry, coefficient}
 use Rattle.rules.specs.Messages.{Message, send, echo, ready, recovery, twoBytes, matrixBytes, coefficientBytes, polynomialBytes, fourBytes, pairBytes, tagOf, bodyOf, framed, bytesOf, wholeLength, toEach, written}
-use Rattle.rules.specs.Record.{groupIn, matrixOf, sharesKept, countE, countR, setupKeeps, sound}
-use Rattle.rules.specs.Steps.{Step, Said, readyFour, echoFour, heard, quiet, withSlot, lowest, sendStep, readySent, echoAt, echoStep, completed, readyAt, readyStep, recovering, shareStep, messageStep, dealStep, completedShare, shareBytes, recoverStep}
+use Rattle.rules.specs.Record.{sharesKept, countE, countR, setupKeeps, sound}
+use Rattle.rules.specs.Steps.{Step, Said, heard, quiet, withSlot, lowest, sendStep, readySent, echoAt, echoStep, completed, readyAt, readyStep, recovering, shareStep, messageStep, dealStep, completedShare, shareBytes, recoverStep}
 use Rattle.rules.specs.Laws.Numbers.{bounds}
 use Rattle.rules.specs.Laws.Clauses.{clauses}
 
@@ -94,6 +94,23 @@ length-toEach u f tag h =
     length-gather (λ j. bytesOf u (f (j + 1))) (wholeLength tag (u .k))
     (λ j. length-message u (f (j + 1)) ∙ ap (λ (t : ℕ). wholeLength t (u .k)) (h (j + 1))) (u .n)
 
+-- Of n messages of one tag, the one to box j stands behind j - 1 others.
+pub piece-toEach : (u : SetUp) (f : ℕ → Message) (tag : ℕ) → ((j : ℕ) → tagOf (f j) ≡ tag) → (j : ℕ) → 1 ≤ j → j ≤ u .n
+    → take (wholeLength tag (u .k)) (drop ((j - 1) * wholeLength tag (u .k)) (toEach u f)) ≡ bytesOf u (f j)
+unfolding toEach
+piece-toEach u f tag same j a b =
+    let run : List ℕ = toEach u f in
+    let w : ℕ = wholeLength tag (u .k) in
+    let each : (i : ℕ) → length (bytesOf u (f (i + 1))) ≡ w =
+    λ i. length-message u (f (i + 1)) ∙ ap (λ v. wholeLength v (u .k)) (same (i + 1)) in
+    let piece = stands-piece run (λ i. bytesOf u (f (i + 1))) w each 0 (u .n) (j - 1) (omega arith) ([], sym (append-nil run)) in
+    let at : (j - 1) * w ≡ 0 + (j - 1) * w = omega arith in
+    let back : j - 1 + 1 ≡ j = omega arith in
+    ap (λ v. take w (drop v run)) at
+    ∙ ap (take w) (piece .1)
+    ∙ take-at (bytesOf u (f (j - 1 + 1))) (piece .0) w (each (j - 1))
+    ∙ ap (λ v. bytesOf u (f v)) back
+
 -- No n messages need more than 1,990 bytes.
 pub toEach-room : (u : SetUp) (f : ℕ → Message) → u .n ≤ 10 → u .k ≤ 8 → length (toEach u f) ≤ 1990
 unfolding toEach
@@ -110,11 +127,11 @@ pick-room false x y h g = g
 module _ (x : Record) (hn : x .setup .n ≤ 10) (hk : x .setup .k ≤ 8) where
   sendStep-room : (C : List (List Element)) (P : Polynomials) → Room (sendStep x C P)
   unfolding sendStep
-  sendStep-room C P = toEach-room (x .setup) (λ j. echo C (echoFour (groupIn x .q) (x .setup .k) P j)) hn hk
+  sendStep-room C P = toEach-room (x .setup) _ hn hk
 
   readySent-room : (s : ℕ) (slot : Slot) (ps : List (Said Four)) → Room (readySent x s slot ps)
   unfolding readySent
-  readySent-room s slot ps = toEach-room (x .setup) (λ j. ready (matrixOf slot) (readyFour (groupIn x .q) ps j)) hn hk
+  readySent-room s slot ps = toEach-room (x .setup) _ hn hk
 
   echoAt-room : (s : ℕ) (slot : Slot) → Room (echoAt x s slot)
   unfolding echoAt

@@ -23,7 +23,8 @@ use Rattle.rules.specs.Laws.DemandOne.{none, outcome-number, set-up-numb
 
 -- ---- the lengths
 
-zero-slot : ShapedSlot zeroSlot
+-- So have those of a zero slot.
+pub zero-slot : ShapedSlot zeroSlot
 unfolding zeroSlot
 zero-slot =
     record {

@@ -1,6 +1,6 @@
 -- What the rules of document 01's "Numbers" come to, once their tests pass.
 --
--- In order: the sizes n, t, k; a whole set-up; the echo quorum; the rows of the table of groups.
+-- In order: the sizes n, t, k; boxes, and a whole set-up; the echo quorum; the rows of the table of groups.
 -- Assumes nothing.
 use mathlib.Core.Path.{_≡_, refl}
 use mathlib.Core.Bool.{true}
@@ -9,8 +9,8 @@ use Prim.Native.Nat.{ℕ, _+_, _*_, _-_, _%_, _^_, _≤_, _<_}
 use native.Mathlib.Omega.{arith}
 use lib.Dec.{eqb, leb, ltb}
 use lib.ListN.{getD}
-use borrow.Author.Tests.{leb-true, ltb-true, eqb-true}
-use Rattle.folds.specs.Tests.{and-left, and-right, or-cases}
+use borrow.Author.Tests.{leb-true, ltb-true, eqb-true, le-leb}
+use Rattle.folds.specs.Tests.{and-left, and-right, or-cases, and-intro}
 use Rattle.folds.specs.Below.{allBelow, allBelow-at, firstFrom}
 use Rattle.algebra.specs.Residues.{primeb, Prime, prime}
 use Rattle.rules.specs.declared.Element.{Element}
@@ -52,6 +52,11 @@ pub record Bounds (u : SetUp) : Type 0 where
 pub is-box : (u : SetUp) (m : ℕ) → isBox u m ≡ true → (1 ≤ m) × (m ≤ u .n)
 unfolding isBox
 is-box u m h = (leb-true 1 m (and-left (leb 1 m) _ h), leb-true m (u .n) (and-right (leb 1 m) _ h))
+
+-- And a box passes.
+pub box-is : (u : SetUp) (m : ℕ) → 1 ≤ m → m ≤ u .n → isBox u m ≡ true
+unfolding isBox
+box-is u m a b = and-intro (leb 1 m) _ (le-leb 1 m a) (le-leb m (u .n) b)
 
 -- A set-up whose numbers pass is within the bounds of each.
 pub bounds : (u : SetUp) → numbersKeep u ≡ true → Bounds u
@@ -145,3 +150,28 @@ group-rule u h =
     (λ e. let q = eqb-true (u .group) 1 e in omega arith)
     (λ e. let q = eqb-true (u .group) 2 e in omega arith)
     (or-cases (eqb (u .group) 1) (eqb (u .group) 2) h))
+
+-- How large its numbers are: q is above every box number, and both are two-byte numbers.
+pub record GroupRanges (G : Group) : Type 0 where
+  pub modulus : 0 < G .p
+  pub modulus-small : G .p < 65536
+  pub some : 0 < G .q
+  pub order : 10 ≤ G .q
+  pub above : 10 < G .q
+  pub small : G .q < 65536
+
+pub group-sizes : (u : SetUp) → groupKeeps u ≡ true → GroupRanges (groupOf (u .group))
+unfolding groupKeeps groupOf groups
+group-sizes u h =
+    ⊎-elim
+    (λ e. rw (eqb-true (u .group) 1 e)
+    (record { modulus = omega arith; modulus-small = omega arith; some = omega arith; order = omega arith; above = omega arith; small = omega arith }))
+    (λ e. rw (eqb-true (u .group) 2 e)
+    (record { modulus = omega arith; modulus-small = omega arith; some = omega arith; order = omega arith; above = omega arith; small = omega arith }))
+    (or-cases (eqb (u .group) 1) (eqb (u .group) 2) h)
+
+pub order-above : (u : SetUp) → groupKeeps u ≡ true → 10 < groupOf (u .group) .q
+order-above u h = group-sizes u h .above
+
+pub modulus-small : (u : SetUp) → groupKeeps u ≡ true → groupOf (u .group) .p < 65536
+modulus-small u h = group-sizes u h .modulus-small

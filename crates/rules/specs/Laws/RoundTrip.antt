@@ -1,8 +1,8 @@
 -- Reading and writing undo one another: "reading the bytes of any message in range gives that message, and whatever is read
 -- back is written as the same bytes".
 --
--- In order: numbers in a run of bytes; messages in range (`Fits`); the parts of a message; refusals 2 and 3, clause by
--- clause; a whole message; the round trip there, and back.
+-- In order: numbers in a run of bytes; messages in range (`Fits`); the parts of a message; a message by its tag; refusals 2
+-- and 3, clause by clause; a whole message; the round trip there, and back.
 -- Where a part stands in the bytes is said by `Stands` of `Runs`, the same for reading and for writing.
 -- Assumes nothing.
 use mathlib.Core.Bool.{true, false, not}
@@ -291,6 +291,25 @@ module _ (k : ℕ) (s : List ℕ) where
     pairIn-stands room =
         stands-both s 6 2 (twoBytes (word s 6)) (twoBytes (word s 8)) refl (word-stands s b 6 (omega arith)) (word-stands s b 8 (omega arith))
 
+-- ---- a message by its tag
+
+module _ (k : ℕ) (s : List ℕ) where
+  pub is-send : tagIn s ≡ 1 → messageIn k s ≡ send (matrixIn k s) (polynomialsIn k s)
+  unfolding messageIn
+  is-send e = rw e
+
+  pub is-echo : tagIn s ≡ 2 → messageIn k s ≡ echo (matrixIn k s) (fourIn k s)
+  unfolding messageIn
+  is-echo e = rw e
+
+  pub is-ready : tagIn s ≡ 3 → messageIn k s ≡ ready (matrixIn k s) (fourIn k s)
+  unfolding messageIn
+  is-ready e = rw e
+
+  pub is-recovery : tagIn s ≡ 4 → messageIn k s ≡ recovery (pairIn s)
+  unfolding messageIn
+  is-recovery e = rw e
+
 -- ---- refusals 2 and 3, clause by clause
 
 -- s is not malformed
@@ -318,6 +337,18 @@ formed k s z =
       whole = eqb-true (length s) (wholeLength (tagIn s) k) (not-false _ (z₄ .0));
       kByte = λ l. eqb-true (getD s 6 0) k (not-false _ (and-rest (leb (tagIn s) 3) _ (z₄ .1) (le-leb (tagIn s) 3 l)));
     }
+
+-- It has one of the four tags.
+pub by-tag : {A : Type 0} (k : ℕ) (s : List ℕ) → Formed k s → (tagIn s ≡ 1 → A) → (tagIn s ≡ 2 → A) → (tagIn s ≡ 3 → A) → (tagIn s ≡ 4 → A) → A
+by-tag {A} k s c one two three four = go (tagIn s) refl (c .low) (c .high)
+  where
+    go : (t : ℕ) → tagIn s ≡ t → 1 ≤ t → t ≤ 4 → A
+    go zero e l h = absurd (omega arith)
+    go (suc zero) e l h = one e
+    go (suc (suc zero)) e l h = two e
+    go (suc (suc (suc zero))) e l h = three e
+    go (suc (suc (suc (suc zero)))) e l h = four e
+    go (suc (suc (suc (suc (suc t))))) e l h = absurd (omega arith)
 
 not-malformed : (k : ℕ) (s : List ℕ) → Formed k s → malformed k s ≡ false
 unfolding malformed hasMatrix
@@ -490,6 +521,21 @@ bytes-body k h (echo C f) = bytes-behind k h C (fourBytes f) (bytes-point f)
 bytes-body k h (ready C f) = bytes-behind k h C (fourBytes f) (bytes-point f)
 bytes-body k h (recovery s) =
     every-append Byte 0 (twoBytes (s .first .0)) (twoBytes (s .second .0)) (bytes-two (s .first .0)) (bytes-two (s .second .0))
+
+-- the matrix of a message
+abbrev pub matrixPart : Message → List (List Element)
+matrixPart (send C P) = C
+matrixPart (echo C f) = C
+matrixPart (ready C f) = C
+matrixPart (recovery s) = []
+
+-- Its matrix is read as it was written.
+pub matrix-there : (u : SetUp) (m : Message) → tagOf m ≤ 3 → Fits (u .k) m → matrixIn (u .k) (bytesOf u m) ≡ matrixPart m
+unfolding messageIn bytesOf framed tagOf
+matrix-there u (send C P) l c = ap matrixPart (message-there u (send C P) c)
+matrix-there u (echo C f) l c = ap matrixPart (message-there u (echo C f) c)
+matrix-there u (ready C f) l c = ap matrixPart (message-there u (ready C f) c)
+matrix-there u (recovery s) l c = absurd (omega arith)
 
 -- Whatever is written is bytes.
 pub message-bytes : (u : SetUp) (m : Message) → SetUpFits u → Bytes (bytesOf u m)

@@ -25,14 +25,22 @@ use Rattle.rules.specs.Laws.Facts.{Side, byEcho, byReady, markAt, ear, h
 
 -- ---- matrices that agree
 
-agree : (k : ℕ) (C D : List (List Element)) → sameMatrix k C D ≡ true → sameMatrix k D C ≡ true
+-- They agree exactly if their entries do.
+pub agree-at : (k : ℕ) (C D : List (List Element)) → sameMatrix k C D ≡ true → (j l : ℕ) → j < k → l < k → entry C j l ≡ entry D j l
 unfolding sameMatrix
-agree k C D h =
-    allBelow-all _ k (λ j a. allBelow-all _ k (λ l b. eq-eqb (entry D j l) (entry C j l) (sym (eqb-true (entry C j l) (entry D j l) (allBelow-at _ k l (allBelow-at _ k j h a) b)))))
+agree-at k C D h j l a b = eqb-true (entry C j l) (entry D j l) (allBelow-at _ k l (allBelow-at _ k j h a) b)
+
+pub agree-all : (k : ℕ) (C D : List (List Element)) → ((j l : ℕ) → j < k → l < k → entry C j l ≡ entry D j l) → sameMatrix k C D ≡ true
+unfolding sameMatrix
+agree-all k C D h = allBelow-all _ k (λ j a. allBelow-all _ k (λ l b. eq-eqb (entry C j l) (entry D j l) (h j l a b)))
 
 -- Two matrices agree either way round.
 pub agree-comm : (k : ℕ) (C D : List (List Element)) → sameMatrix k C D ≡ sameMatrix k D C
-agree-comm k C D = iff-same (sameMatrix k C D) (sameMatrix k D C) (agree k C D) (agree k D C)
+agree-comm k C D =
+    iff-same (sameMatrix k C D) (sameMatrix k D C) (turned C D) (turned D C)
+  where
+    turned : (C D : List (List Element)) → sameMatrix k C D ≡ true → sameMatrix k D C ≡ true
+    turned C D h = agree-all k D C (λ j l a b. sym (agree-at k C D h j l a b))
 
 -- ---- the clause on marks
 

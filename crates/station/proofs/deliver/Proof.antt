@@ -16,7 +16,7 @@ use Rattle.rules.specs.Answers.{firstOf, tooShort, deliverRows}
 use Rattle.rules.specs.Laws.Numbers.{is-box}
 use Rattle.rules.specs.Laws.RoundTrip.{formed}
 use Rattle.steps.specs.Laws.{ranges}
-use Rattle.station.specs.Past.{header, last-tag, turns, Past, knows, delivers}
+use Rattle.station.specs.Past.{header, point-tag, turns, Past, knows, delivers}
 use Rattle.station.proofs.deliver.Statement.{statement}
 use Rattle.station.proofs.deliver.Tie as tie
 
@@ -281,17 +281,15 @@ returns-9 c =
 deliver-send-requires : tie.Need-deliver-send-requires
 deliver-send-requires c κs = (knows _ _ _ _ (past (c .before .before)), c .before .match .keys1)
 
-deliver-echo-requires : tie.Need-deliver-echo-requires
-deliver-echo-requires c κs = (knows _ _ _ _ (past (c .before .before)), c .before .match .keys2)
-
-deliver-ready-requires : tie.Need-deliver-ready-requires
-deliver-ready-requires c κs = (knows _ _ _ _ (past (c .before .before)), c .before .match .keys3)
-
 deliver-share-requires : tie.Need-deliver-share-requires
-deliver-share-requires c κs =
+deliver-share-requires c κs = (knows _ _ _ _ (past (c .before .before)), c .before .match .keys2)
+
+deliver-point-requires : tie.Need-deliver-point-requires
+deliver-point-requires c κs =
     let p = past (c .before .before) in
     let rest = c .before .match .rest in
-    (knows _ _ _ _ p, last-tag _ _ (p .formed) (rest .0 .0 .1) (rest .0 .1) (rest .1))
+    let tag = point-tag _ _ (p .formed) (rest .0 .1) (rest .1) in
+    (knows _ _ _ _ p, refl, tag .0, tag .1)
 
 same-length : tie.Need-same-length
 same-length c = search needs
@@ -307,7 +305,7 @@ same-length-2 c = search needs
 returns-11 : tie.Need-returns-11
 returns-11 c =
     let taken = c .before .before in
-    delivers _ _ _ _ (past (taken .before .before .before)) (taken .deliver-echo .ensures)
+    delivers _ _ _ _ (past (taken .before .before .before)) (taken .deliver-share .ensures)
 
 same-length-3 : tie.Need-same-length-3
 same-length-3 c = search needs
@@ -315,15 +313,7 @@ same-length-3 c = search needs
 returns-12 : tie.Need-returns-12
 returns-12 c =
     let taken = c .before .before in
-    delivers _ _ _ _ (past (taken .before .before .before)) (taken .deliver-ready .ensures)
-
-same-length-4 : tie.Need-same-length-4
-same-length-4 c = search needs
-
-returns-13 : tie.Need-returns-13
-returns-13 c =
-    let taken = c .before .before in
-    delivers _ _ _ _ (past (taken .before .before .before)) (taken .deliver-share .ensures)
+    delivers _ _ _ _ (past (taken .before .before .before)) (taken .deliver-point .ensures)
 
 pub deliver-spec : {M : Type 1} → statement M
 deliver-spec =
@@ -359,14 +349,11 @@ deliver-spec =
     refuse-requires-9
     returns-9
     deliver-send-requires
-    deliver-echo-requires
-    deliver-ready-requires
     deliver-share-requires
+    deliver-point-requires
     same-length
     returns-10
     same-length-2
     returns-11
     same-length-3
-    returns-12
-    same-length-4
-    returns-13)
+    returns-12)

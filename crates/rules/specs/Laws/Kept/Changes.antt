@@ -5,11 +5,11 @@
 use mathlib.Core.Path.{_≡_, refl, sym, ap, _∙_, subst}
 use mathlib.Core.Bool.{true, false}
 use Prim.Native.Nat.{ℕ, _+_, _-_, _<_, _≤_}
-use native.Mathlib.Decide.{ℕ-discrete}
+use native.Mathlib.Decide.{ℕ-discrete, decLt}
 use native.Mathlib.Omega.{arith}
 use lib.Dec.{eqb}
-use lib.ListN.{length, getD, length-set}
-use lib.Seq.{getD-set-same, getD-set-other}
+use lib.ListN.{length, getD, length-set, set}
+use lib.Seq.{getD-set-same, getD-set-other, set-out}
 use borrow.Author.Tests.{eqb-false}
 use Rattle.folds.specs.Below.{anyBelow, countBelow-up}
 use Rattle.folds.specs.Stores.{set-each}
@@ -27,6 +27,7 @@ use Rattle.rules.specs.Steps.{withProgress, withSlot, withShares, mark, 
 use Rattle.rules.specs.Laws.Shape.{ShapedSlot, Shaped}
 use Rattle.rules.specs.Laws.Facts.{Side, byEcho, byReady, marksOf, markAt, ear, hears, Contents, PairRight, SlotFacts, DoneWith, Facts, needed}
 use Rattle.rules.specs.Laws.Sound.{agree-comm}
+use Rattle.rules.specs.Laws.Kept.TakenSlot.{mark-stays}
 
 -- a sound record, and its arrays have their lengths
 pub record Good (x : Record) : Type 0 where
@@ -65,6 +66,20 @@ progress-good x v g done commanded stays dealt =
 
 -- ---- a sender heard
 
+-- Who is heard stays heard.
+pub hears-stays : (x : Record) (tag m a i : ℕ) → hears x a i ≡ true → hears (heard x tag m) a i ≡ true
+unfolding heard
+hears-stays x tag m a i e = go (ℕ-discrete a (tag - 1)) (decLt (tag - 1) (length (x .heard)))
+  where
+    new : Marks
+    new = mark (getD (x .heard) (tag - 1) noMarks) m
+
+    go : Dec (a ≡ tag - 1) → Dec (tag - 1 < length (x .heard)) → marked (getD (set (x .heard) (tag - 1) new) a noMarks) i ≡ true
+    go (yes q) (yes l) =
+        rw (q, getD-set-same (x .heard) (tag - 1) new noMarks l) (mark-stays (getD (x .heard) (tag - 1) noMarks) m i (rw q at e))
+    go (yes q) (no l) = rw (set-out (x .heard) (tag - 1) new (omega arith)) e
+    go (no n) l = ap (λ (ms : Marks). marked ms i) (getD-set-other (x .heard) (tag - 1) a new noMarks n) ∙ e
+
 module _ (x : Record) (shape : Shaped x) (tag m : ℕ) (lt : tag - 1 < 4) (lm : m < 10) where
   -- The sender is heard for the tag.
   pub hears-own : hears (heard x tag m) (tag - 1) m ≡ true
@@ -82,14 +97,6 @@ module _ (x : Record) (shape : Shaped x) (tag m : ℕ) (lt : tag - 1 < 4) (lm : 
       (λ n. getD-set-other (getD (x .heard) (tag - 1) noMarks .at) m i true false (n refl))
       (λ r n h. refl)
       a
-
-  hears-stays : (a i : ℕ) → hears x a i ≡ true → hears (heard x tag m) a i ≡ true
-  hears-stays a i e = go (ℕ-discrete a (tag - 1)) (ℕ-discrete i m)
-    where
-      go : Dec (a ≡ tag - 1) → Dec (i ≡ m) → hears (heard x tag m) a i ≡ true
-      go (yes p) (yes q) = rw (p, q) hears-own
-      go (yes p) (no n) = hears-other a i (λ p q. n q) ∙ e
-      go (no n) d = hears-other a i (λ p q. n p) ∙ e
 
   heard-shape : Shaped (heard x tag m)
   unfolding heard
@@ -119,7 +126,7 @@ heard-good x tag m g lt lm =
         slots = c .slots;
         differ = c .differ;
         once = c .once;
-        heard = λ b i s a l e. hears-stays x (g .shape) tag m lt4 lm10 (ear b) i (c .heard b i s a l e);
+        heard = λ b i s a l e. hears-stays x tag m (ear b) i (c .heard b i s a l e);
         completion = c .completion;
         shares = c .shares;
         recovered = c .recovered;
@@ -305,7 +312,7 @@ module _ (x : Record) (g : Good x) (m : ℕ) (l : m < x .setup .n) (s : Pair) (n
           slots = f .slots;
           differ = f .differ;
           once = f .once;
-          heard = λ b i a h k e. hears-stays x (g .shape) 4 m lt low (ear b) i (f .heard b i a h k e);
+          heard = λ b i a h k e. hears-stays x 4 m (ear b) i (f .heard b i a h k e);
           completion = f .completion;
           shares = set-each (λ (i : ℕ) (v : Keep). i < 10 → keptBelow (groupIn x .q) (v .kept) ≡ true) (x .shares) m _ nothing place (λ h. below) (λ r n. f .shares r);
           recovered = wb;

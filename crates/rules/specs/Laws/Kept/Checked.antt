@@ -1,20 +1,17 @@
 -- A checked message leaves a good record.
 --
--- In order: interpolated numbers are below q; the slot of an echo or ready may stand where it is put; the steps of echo,
--- ready and recovery share.
+-- In order: the slot of an echo or ready may stand where it is put; the steps of echo, ready and recovery share.
 -- Assumes nothing.
 use mathlib.Core.Path.{_≡_, sym, ap, _∙_, subst}
 use mathlib.Core.Bool.{true, false}
 use mathlib.Core.List.{List}
 use mathlib.Core.Logic.{_⊎_, inl, inr, ⊎-elim}
 use Prim.Native.Nat.{ℕ, _+_, _-_, _<_, _≤_}
-use native.Mathlib.Nat.{mod-lt}
 use native.Mathlib.Omega.{arith}
-use lib.Dec.{eqb, ltb}
+use lib.Dec.{eqb}
 use lib.Seq.{getD-set-same}
-use borrow.Author.Tests.{eqb-true, lt-ltb}
-use Rattle.folds.specs.Tests.{and-intro, pick-either, true≢false, false-unless}
-use Rattle.algebra.specs.Interpolation.{interpolate}
+use borrow.Author.Tests.{eqb-true}
+use Rattle.folds.specs.Tests.{pick-either, true≢false, false-unless}
 use Rattle.rules.specs.declared.Element.{Element}
 use Rattle.rules.specs.declared.Four.{Four}
 use Rattle.rules.specs.declared.Pair.{Pair}
@@ -22,28 +19,14 @@ use Rattle.rules.specs.declared.Slot.{Slot}
 use Rattle.rules.specs.declared.Record.{Record}
 use Rattle.rules.specs.Dealing.{fourBelow, pairBelow}
 use Rattle.rules.specs.Record.{noSlot, groupIn, slotAt, heardFor, marked, matrixOf, isThere, countR, sharesKept, sameMatrix, sound}
-use Rattle.rules.specs.Steps.{Said, through, pairFrom, recoveredFrom, sharePoints, heard, ownSlot, freeSlot, slotFor, opened, echoed, readied, keeping, Step, readySent, withSlot, echoAt, echoStep, readyAt, readyStep, completing, completed, sharing, recovering, shareStep}
+use Rattle.rules.specs.Steps.{Said, pairFrom, sharePoints, heard, ownSlot, freeSlot, slotFor, opened, echoed, readied, keeping, Step, readySent, withSlot, echoAt, echoStep, readyAt, readyStep, completing, completed, sharing, recovering, shareStep}
 use Rattle.rules.specs.Laws.Room.{Found, room-echo, room-ready}
 use Rattle.rules.specs.Laws.Facts.{Side, byEcho, byReady, marksOf, markAt, ear, hears, Needed, DoneWith, Facts, needed}
 use Rattle.rules.specs.Laws.Sound.{agree-comm}
 use Rattle.rules.specs.Laws.Kept.OpenSlot.{Fits, OpenFacts, open-facts, open-marks, open-same, open-new}
 use Rattle.rules.specs.Laws.Kept.TakenSlot.{taken, taken-cases, taken-use, taken-contents, taken-shape, count-grows, firstAt, right-stays, right-kept}
 use Rattle.rules.specs.Laws.Kept.Changes.{Good, heard-good, hears-own, Replaces, keeping-replaces, replaced-good, completing-good, share-good}
-
--- ---- interpolated numbers
-
-module _ (q : ℕ) (l : 0 < q) where
-  through-below : {A : Type 0} (ps : List (Said A)) (number : A → ℕ) (x : ℕ) → ltb (through q ps number x) q ≡ true
-  unfolding through interpolate
-  through-below ps number x = lt-ltb _ q (mod-lt _ l)
-
-  pair-below : (ps : List (Said Four)) → pairBelow q (pairFrom q ps) ≡ true
-  unfolding pairBelow pairFrom
-  pair-below ps = and-intro _ _ (through-below ps _ 0) (through-below ps _ 0)
-
-  recovered-below : (ps : List (Said Pair)) → pairBelow q (recoveredFrom q ps) ≡ true
-  unfolding pairBelow recoveredFrom
-  recovered-below ps = and-intro _ _ (through-below ps _ 0) (through-below ps _ 0)
+use Rattle.rules.specs.Laws.Checks.{pairFrom-below, recovered-below}
 
 -- ---- the slot of an echo or ready
 
@@ -123,7 +106,7 @@ module _ (b : Side) (y : Record) (s m : ℕ) (C : List (List Element)) (f : Four
   paired-good : (ps : List (Said Four)) → firstAt (y .setup) b (next b y s m C f) ≡ true → Good (withSlot y s (keeping (next b y s m C f) (pairFrom (groupIn y .q) ps)))
   paired-good ps e =
       replaced-good y (c .good) s (keeping (next b y s m C f) (pairFrom (groupIn y .q) ps)) here-now
-      (keeping-replaces y s (next b y s m C f) (pairFrom (groupIn y .q) ps) (pair-below (groupIn y .q) (numbers .order) ps) next-replaces)
+      (keeping-replaces y s (next b y s m C f) (pairFrom (groupIn y .q) ps) (pairFrom-below (groupIn y .q) (numbers .order) ps) next-replaces)
       (right-kept (y .setup) b (next b y s m C f) (pairFrom (groupIn y .q) ps) e)
 
   -- the slot has k + t readies

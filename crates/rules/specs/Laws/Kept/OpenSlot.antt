@@ -6,15 +6,14 @@ use mathlib.Core.Path.{_≡_, refl, sym, ap, _∙_}
 use mathlib.Core.Bool.{Bool, true, false}
 use mathlib.Core.List.{List, [], _∷_, map}
 use mathlib.Core.Logic.{_⊎_, inl, inr}
-use Prim.Native.Nat.{ℕ, _<_, _≤_}
+use Prim.Native.Nat.{ℕ, _<_}
 use native.Mathlib.Decide.{decLt}
 use native.Mathlib.Omega.{arith}
 use lib.Dec.{eqb, ltb}
-use lib.ListN.{length, getD, replicate, length-map, getD-replicate, List·getD-map}
+use lib.ListN.{length, getD, length-map, getD-replicate, List·getD-map}
 use borrow.Author.Tests.{lt-leb, lt-ltb, eq-eqb}
 use Rattle.folds.specs.Tests.{_and_, _or_, and-intro, or-left, or-right, or-none, pick-true, pick-either, true≢false, decide}
 use Rattle.folds.specs.Below.{countBelow, allBelow-all, countBelow-none}
-use Rattle.folds.specs.Stores.{length-stores, getD-stores, getD-stores-behind}
 use Rattle.rules.specs.declared.Element.{Element}
 use Rattle.rules.specs.declared.SetUp.{SetUp}
 use Rattle.rules.specs.declared.Place.{Place}
@@ -28,6 +27,7 @@ use Rattle.rules.specs.Record.{silent, marked, placeAt, rowAt, matrixOf,
 use Rattle.rules.specs.Steps.{rowOf, opened}
 use Rattle.rules.specs.Laws.Shape.{ShapedSlot}
 use Rattle.rules.specs.Laws.Facts.{Side, byEcho, byReady, marksOf, Needed, Contents, PairRight, SlotFacts}
+use Rattle.rules.specs.Laws.Matrices.{row-length, row-zero, matrix-height, matrix-filled, matrix-empty}
 
 -- ---- a matrix that fits: 8 by 8, would pass refusal 8, and is zero from k on
 
@@ -38,34 +38,12 @@ pub record Fits (u : SetUp) (C : List (List Element)) : Type 0 where
   pub zero : (j l : ℕ) → j < 8 → l < 8 → (j < u .k → l < u .k → ⊥) → entry C j l ≡ 0
 
 module _ (k : ℕ) (f : ℕ → ℕ → Element) where
-  -- a row of the matrix is a filled one or one of zeros
-  filled : (j : ℕ) → j < 8 → j < k → getD (matrix k (element 0) f) j [] ≡ row k (element 0) (f j)
-  unfolding matrix
-  filled j l h = getD-stores (λ j. row k (element 0) (f j)) (replicate 8 (replicate 8 (element 0))) k j [] h l
-
-  empty : (j : ℕ) → j < 8 → k ≤ j → getD (matrix k (element 0) f) j [] ≡ replicate 8 (element 0)
-  unfolding matrix
-  empty j l h =
-      getD-stores-behind (λ j. row k (element 0) (f j)) (replicate 8 (replicate 8 (element 0))) k j [] h ∙ getD-replicate 8 j (replicate 8 (element 0)) [] l
-
-  row-length : (g : ℕ → Element) → length (row k (element 0) g) ≡ 8
-  unfolding row
-  row-length g = length-stores g (replicate 8 (element 0)) k
-
-  row-zero : (g : ℕ → Element) (l : ℕ) → l < 8 → k ≤ l → getD (row k (element 0) g) l (element 0) ≡ element 0
-  unfolding row
-  row-zero g l h b = getD-stores-behind g (replicate 8 (element 0)) k l (element 0) b ∙ getD-replicate 8 l (element 0) (element 0) h
-
-  matrix-height : length (matrix k (element 0) f) ≡ 8
-  unfolding matrix
-  matrix-height = length-stores (λ j. row k (element 0) (f j)) (replicate 8 (replicate 8 (element 0))) k
-
   matrix-width : (j : ℕ) → j < 8 → length (getD (matrix k (element 0) f) j []) ≡ 8
   matrix-width j l = go (decLt j k)
     where
       go : Dec (j < k) → length (getD (matrix k (element 0) f) j []) ≡ 8
-      go (yes h) = ap length (filled j l h) ∙ row-length (f j)
-      go (no h) = ap length (empty j l (omega arith))
+      go (yes h) = ap length (matrix-filled k (element 0) f j l h) ∙ row-length k (element 0) (f j)
+      go (no h) = ap length (matrix-empty k (element 0) f j l (omega arith))
 
   matrix-zero : (j l : ℕ) → j < 8 → l < 8 → (j < k → l < k → ⊥) → entry (matrix k (element 0) f) j l ≡ 0
   matrix-zero j l a b out = ap (λ (e : Element). e .0) (go (decLt j k) (decLt l k))
@@ -75,17 +53,17 @@ module _ (k : ℕ) (f : ℕ → ℕ → Element) where
 
       go : Dec (j < k) → Dec (l < k) → at (getD (matrix k (element 0) f) j []) ≡ element 0
       go (yes h) (yes g) = absurd (out h g)
-      go (yes h) (no g) = ap at (filled j a h) ∙ row-zero (f j) l b (omega arith)
-      go (no h) g = ap at (empty j a (omega arith)) ∙ getD-replicate 8 l (element 0) (element 0) b
+      go (yes h) (no g) = ap at (matrix-filled k (element 0) f j a h) ∙ row-zero k (element 0) (f j) l b (omega arith)
+      go (no h) g = ap at (matrix-empty k (element 0) f j a (omega arith)) ∙ getD-replicate 8 l (element 0) (element 0) b
 
 -- The matrix read out of a message fits if it would pass refusal 8.
 pub matrix-fits : (u : SetUp) (bytes : List ℕ) → matrixPasses (groupOf (u .group)) (u .k) (matrixIn (u .k) bytes) ≡ true → Fits u (matrixIn (u .k) bytes)
 unfolding matrixIn
-matrix-fits u bytes h = record { passes = h; height = matrix-height (u .k) _; width = matrix-width (u .k) _; zero = matrix-zero (u .k) _ }
+matrix-fits u bytes h = record { passes = h; height = matrix-height (u .k) (element 0) _; width = matrix-width (u .k) _; zero = matrix-zero (u .k) _ }
 
 -- ---- the new slot
 
-unfoldable fresh : List (List Element) → Slot
+unfoldable pub fresh : List (List Element) → Slot
 fresh C =
     record {
       used = true;
@@ -104,14 +82,24 @@ fresh-matrix : (C : List (List Element)) → matrixOf (fresh C) ≡ C
 unfolding matrixOf fresh
 fresh-matrix C = rows-back C
 
+-- it holds nothing, as a zero slot does
+pub zero-silent : (m : ℕ) → m < 10 → placeAt zeroSlot m ≡ silent
+unfolding zeroSlot
+zero-silent m l = getD-replicate 10 m silent silent l
+
+pub zero-unmarked : (b : Side) (m : ℕ) → m < 10 → marked (marksOf b zeroSlot) m ≡ false
+unfolding zeroSlot
+zero-unmarked byEcho m l = getD-replicate 10 m false false l
+zero-unmarked byReady m l = getD-replicate 10 m false false l
+
 fresh-silent : (C : List (List Element)) (m : ℕ) → m < 10 → placeAt (fresh C) m ≡ silent
-unfolding fresh zeroSlot
-fresh-silent C m l = getD-replicate 10 m silent silent l
+unfolding fresh
+fresh-silent C m l = zero-silent m l
 
 fresh-unmarked : (C : List (List Element)) (b : Side) (m : ℕ) → m < 10 → marked (marksOf b (fresh C)) m ≡ false
-unfolding fresh zeroSlot
-fresh-unmarked C byEcho m l = getD-replicate 10 m false false l
-fresh-unmarked C byReady m l = getD-replicate 10 m false false l
+unfolding fresh
+fresh-unmarked C byEcho m l = zero-unmarked byEcho m l
+fresh-unmarked C byReady m l = zero-unmarked byReady m l
 
 module _ (u : SetUp) (C : List (List Element)) (fit : Fits u C) where
   fresh-shape : ShapedSlot (fresh C)

@@ -10,7 +10,7 @@ use native.Mathlib.Decide.{ℕ-discrete, decLt}
 use native.Mathlib.Omega.{arith}
 use lib.Dec.{eqb, leb, ltb}
 use lib.ListN.{length, length-set}
-use lib.Seq.{getD-set-same, getD-set-other}
+use lib.Seq.{getD-set-same, getD-set-other, set-out}
 use borrow.Author.Tests.{leb-true, eqb-true, le-leb, lt-ltb, eq-eqb}
 use Rattle.folds.specs.Tests.{_and_, _or_, and-left, and-intro, or-cases, or-left, or-right, iff-same, true≢false}
 use Rattle.folds.specs.Below.{anyBelow, countBelow, anyBelow-here, countBelow-up, countBelow-mono}
@@ -43,11 +43,21 @@ hit byEcho byReady ms m = ms
 hit byReady byEcho ms m = ms
 hit byReady byReady ms m = mark ms m
 
+-- Who is marked stays marked.
+pub mark-stays : (ms : Marks) (m i : ℕ) → marked ms i ≡ true → marked (mark ms m) i ≡ true
+mark-stays ms m i e = go (ℕ-discrete i m) (decLt m (length (ms .at)))
+  where
+    go : Dec (i ≡ m) → Dec (m < length (ms .at)) → marked (mark ms m) i ≡ true
+    go (yes q) (yes l) = rw (q, getD-set-same (ms .at) m true false l)
+    go (yes q) (no l) = rw (set-out (ms .at) m true (omega arith)) e
+    go (no n) l = getD-set-other (ms .at) m i true false n ∙ e
+
 module _ (ms : Marks) (shape : length (ms .at) ≡ 10) (m : ℕ) (l : m < 10) where
-  mark-own : marked (mark ms m) m ≡ true
+  -- The sender is marked, and of the others who was.
+  pub mark-own : marked (mark ms m) m ≡ true
   mark-own = getD-set-same (ms .at) m true false (omega arith)
 
-  mark-other : (i : ℕ) → (i ≡ m → ⊥) → marked (mark ms m) i ≡ marked ms i
+  pub mark-other : (i : ℕ) → (i ≡ m → ⊥) → marked (mark ms m) i ≡ marked ms i
   mark-other i n = getD-set-other (ms .at) m i true false n
 
   hit-own : (b : Side) → marked (hit b b ms m) m ≡ true
@@ -78,17 +88,10 @@ module _ (ms : Marks) (shape : length (ms .at) ≡ 10) (m : ℕ) (l : m < 10) wh
       go byReady byReady (yes q) e = inl (refl, q)
 
   hit-stays : (a b : Side) (i : ℕ) → marked ms i ≡ true → marked (hit a b ms m) i ≡ true
-  hit-stays a b i e = go a b (ℕ-discrete i m)
-    where
-      own : i ≡ m → marked (mark ms m) i ≡ true
-      own q = ap (marked (mark ms m)) q ∙ mark-own
-
-      go : (a b : Side) → Dec (i ≡ m) → marked (hit a b ms m) i ≡ true
-      go a b (no n) = hit-other a b i n ∙ e
-      go byEcho byEcho (yes q) = own q
-      go byEcho byReady (yes q) = e
-      go byReady byEcho (yes q) = e
-      go byReady byReady (yes q) = own q
+  hit-stays byEcho byEcho i e = mark-stays ms m i e
+  hit-stays byEcho byReady i e = e
+  hit-stays byReady byEcho i e = e
+  hit-stays byReady byReady i e = mark-stays ms m i e
 
 -- ---- the slot that took a message
 
@@ -108,7 +111,8 @@ abbrev pub countOf : Side → Slot → ℕ
 countOf byEcho slot = countE slot
 countOf byReady slot = countR slot
 
-count-is : (a : Side) (slot : Slot) → countOf a slot ≡ countBelow 10 (marked (marksOf a slot))
+-- It is the number of those marked.
+pub count-is : (a : Side) (slot : Slot) → countOf a slot ≡ countBelow 10 (marked (marksOf a slot))
 unfolding countE countR
 count-is byEcho slot = refl
 count-is byReady slot = refl
@@ -130,10 +134,11 @@ first-below q Silent f h e = e
 first-below q (Held g) f h e = h
 
 module _ (b : Side) (slot : Slot) (shape : ShapedSlot slot) (m : ℕ) (l : m < 10) (f : Four) where
-  place-own : placeAt (taken b slot m f) m .point ≡ firstPoint (placeAt slot m .point) f
+  -- The sender's place holds its first point, and every other what it held.
+  pub place-own : placeAt (taken b slot m f) m .point ≡ firstPoint (placeAt slot m .point) f
   place-own = ap (λ (p : Place). p .point) (getD-set-same (slot .places) m _ silent (let e = shape .places in omega arith))
 
-  place-other : (i : ℕ) → (i ≡ m → ⊥) → placeAt (taken b slot m f) i ≡ placeAt slot i
+  pub place-other : (i : ℕ) → (i ≡ m → ⊥) → placeAt (taken b slot m f) i ≡ placeAt slot i
   place-other i n = getD-set-other (slot .places) m i _ silent n
 
   held-own : held (taken b slot m f) m ≡ true
@@ -166,8 +171,8 @@ module _ (b : Side) (slot : Slot) (shape : ShapedSlot slot) (m : ℕ) (l : m < 1
       rw (count-is a slot, count-is a (taken b slot m f), taken-marks a b slot m f)
       (countBelow-mono _ _ 10 (λ i g e. hit-stays (marksOf a slot) (marks-shape a slot shape) m l a b i e))
 
-  -- that of the side goes up by one if the sender was not marked, and that of the other stays
-  count-up : marked (marksOf b slot) m ≡ false → countOf b (taken b slot m f) ≡ countOf b slot + 1
+  -- That of the side goes up by one if the sender was not marked, and that of the other stays.
+  pub count-up : marked (marksOf b slot) m ≡ false → countOf b (taken b slot m f) ≡ countOf b slot + 1
   count-up e =
       rw (count-is b slot, count-is b (taken b slot m f), taken-marks b b slot m f)
       (countBelow-up _ _ m 10 l e
@@ -229,7 +234,8 @@ or-comm true false = refl
 or-comm false true = refl
 or-comm false false = refl
 
-either-side : (u : SetUp) (b : Side) (slot : Slot)
+-- Whether a pair is to be there does not go by the order of the sides.
+pub either-side : (u : SetUp) (b : Side) (slot : Slot)
     → leb (echoQuorum u) (countE slot) or leb (u .k) (countR slot) ≡ leb (aim u b) (countOf b slot) or leb (aim u (other b)) (countOf (other b) slot)
 either-side u byEcho slot = refl
 either-side u byReady slot = or-comm (leb (echoQuorum u) (countE slot)) (leb (u .k) (countR slot))

@@ -33,17 +33,17 @@ abbrev step : tie.Start → Step
 step c = echoStep (marked c) (c .args .m) (c .args .c) (c .args .four)
 
 -- the step goes by the slot as it now is
-fresh : (c : tie.After-with-echo)
+fresh : (c : tie.After-with-point)
     → let found = c .before .before .before in
     let start = found .before .before in
-    step start ≡ echoAt (marked start) (found .slot-for .result) (c .with-echo .result)
+    step start ≡ echoAt (marked start) (found .slot-for .result) (c .with-point .result)
 unfolding heard
 fresh c =
     let found = c .before .before .before in
     let start = found .before .before in
     let a = start .args in
     echo-at (marked start) (a .m) (a .c) (a .four) (found .slot-for .ensures ∙ heard-slot (a .t2) 2 (a .m) (a .c))
-    (c .with-echo .ensures ∙ ap (λ slot. echoed slot (a .m) (a .four)) (c .before .opened-for .ensures))
+    (c .with-point .ensures ∙ ap (λ slot. echoed slot (a .m) (a .four)) (c .before .opened-for .ensures))
 
 slot-for-requires : tie.Need-slot-for-requires
 slot-for-requires c κs = ranges (c .before .args .t2) (c .before .pre .0) .high
@@ -57,8 +57,8 @@ element-copy-out-old c = within c
 opened-for-requires : tie.Need-opened-for-requires
 opened-for-requires c κs = search needs
 
-with-echo-requires : tie.Need-with-echo-requires
-with-echo-requires c κs = sender (c .before .before .before .before)
+with-point-requires : tie.Need-with-point-requires
+with-point-requires c κs = sender (c .before .before .before .before)
 
 count-marks-requires : tie.Need-count-marks-requires
 count-marks-requires c κs = search needs
@@ -124,7 +124,7 @@ take-echo-spec =
     mul-old
     element-copy-out-old
     opened-for-requires
-    with-echo-requires
+    with-point-requires
     count-marks-requires
     echo-quorum-requires
     count-marks-requires-2

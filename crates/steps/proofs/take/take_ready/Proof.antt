@@ -34,24 +34,24 @@ abbrev step : tie.Start → Step
 step c = readyStep (marked c) (c .args .m) (c .args .c) (c .args .four)
 
 -- the step goes by the slot as it now is
-fresh : (c : tie.After-with-ready)
+fresh : (c : tie.After-with-point)
     → let found = c .before .before .before in
     let start = found .before .before in
-    step start ≡ readyAt (marked start) (found .slot-for .result) (c .with-ready .result)
+    step start ≡ readyAt (marked start) (found .slot-for .result) (c .with-point .result)
 unfolding heard
 fresh c =
     let found = c .before .before .before in
     let start = found .before .before in
     let a = start .args in
     ready-at (marked start) (a .m) (a .c) (a .four) (found .slot-for .ensures ∙ heard-slot (a .t2) 3 (a .m) (a .c))
-    (c .with-ready .ensures ∙ ap (λ slot. readied slot (a .m) (a .four)) (c .before .opened-for .ensures))
+    (c .with-point .ensures ∙ ap (λ slot. readied slot (a .m) (a .four)) (c .before .opened-for .ensures))
 
 -- and where no ready is sent
 unsent : (c : tie.Joined1)
     → let made = c .before .before .before .before .before .before in
     let found = made .before .before .before in
     let start = found .before .before in
-    step start ≡ readied-enough (marked start) (found .slot-for .result) (made .with-ready .result)
+    step start ≡ readied-enough (marked start) (found .slot-for .result) (made .with-point .result)
 unfolding heard countE countR countMarks
 unsent c =
     let made = c .before .before .before .before .before .before in
@@ -74,8 +74,8 @@ element-copy-out-old c = within c
 opened-for-requires : tie.Need-opened-for-requires
 opened-for-requires c κs = search needs
 
-with-ready-requires : tie.Need-with-ready-requires
-with-ready-requires c κs = sender (c .before .before .before .before)
+with-point-requires : tie.Need-with-point-requires
+with-point-requires c κs = sender (c .before .before .before .before)
 
 count-marks-requires : tie.Need-count-marks-requires
 count-marks-requires c κs = search needs
@@ -132,7 +132,7 @@ returns-2 c =
     let made = met .before .before .before .before .before .before in
     let start = made .before .before .before .before .before in
     rw
-    (unsent met ∙ enough-now (marked start) _ (made .with-ready .result) (met .before .before .count-marks .ensures) (c .before .if3 .taken))
+    (unsent met ∙ enough-now (marked start) _ (made .with-point .result) (met .before .before .count-marks .ensures) (c .before .if3 .taken))
     (completes _ (start .args .out .now) (c .complete .ensures) (c .before .before .before .heard-at-slot .ensures))
 
 told-requires : tie.Need-told-requires
@@ -145,7 +145,7 @@ returns-3 c =
     let made = met .before .before .before .before .before .before in
     let start = made .before .before .before .before .before in
     rw
-    (unsent met ∙ not-now (marked start) _ (made .with-ready .result) (met .before .before .count-marks .ensures) (c .before .if3 .left))
+    (unsent met ∙ not-now (marked start) _ (made .with-point .result) (met .before .before .count-marks .ensures) (c .before .if3 .left))
     (rests (start .args .out .now) (c .told .ensures) (c .before .before .before .heard-at-slot .ensures))
 
 pub take-ready-spec : {M : Type 1} → statement M
@@ -156,7 +156,7 @@ take-ready-spec =
     mul-old
     element-copy-out-old
     opened-for-requires
-    with-ready-requires
+    with-point-requires
     count-marks-requires
     count-marks-requires-2
     echo-quorum-requires

@@ -1,16 +1,39 @@
 -- `take_share` is the step of a checked recovery share. Assumes nothing.
-use mathlib.Core.Path.{_≡_, sym, ap, _∙_}
-use Prim.Native.Nat.{_<_}
+use mathlib.Core.List.{List}
+use mathlib.Core.Path.{_≡_, refl, sym, ap, ap₂, _∙_}
+use Prim.Native.Nat.{ℕ, _<_}
+use native.Mathlib.Omega.{arith}
+use lib.ListN.{length, take}
+use lib.Seq.{take-all}
 use borrow.Author.Needs.{needs}
 use borrow.Author.Tests.{eq-eqb, ne-eqb}
+use Rattle.folds.specs.Tests.{pick}
+use Rattle.folds.specs.Runs.{length-gather-count}
+use Rattle.rules.specs.declared.Keep.{Keep}
+use Rattle.rules.specs.declared.Kept.{Kept}
+use Rattle.rules.specs.declared.Kept.the-variants.{Absent, There}
 use Rattle.rules.specs.declared.Sent.the-variants.{Nothing}
-use Rattle.rules.specs.Record.{sharesKept}
-use Rattle.rules.specs.Steps.{heard, sharing, recoveredFrom, sharePoints, recovering, shareStep}
+use Rattle.rules.specs.Record.{isThere, shareAt, sharesKept}
+use Rattle.rules.specs.Steps.{heard, sharing, keptAt, recoveredFrom, sharePoints, recovering, shareStep}
 use Rattle.rules.specs.Answers.{accepted}
 use Rattle.steps.specs.Takes.{sentWith}
 use Rattle.steps.specs.Laws.{ranges, group-ranges, place-of}
 use Rattle.steps.proofs.take.take_share.Statement.{statement}
 use Rattle.steps.proofs.take.take_share.Tie as tie
+
+-- there are as many as are kept
+length-sharePoints : (keeps : List Keep) → length (sharePoints keeps) ≡ sharesKept keeps
+unfolding sharePoints sharesKept
+length-sharePoints keeps =
+    length-gather-count (λ m. keptAt m (shareAt keeps m)) (λ m. isThere (shareAt keeps m)) (λ m. one m (shareAt keeps m)) 10
+  where
+    one : (m : ℕ) (kept : Kept) → length (keptAt m kept) ≡ pick (isThere kept) 1 0
+    one m Absent = refl
+    one m (There s) = refl
+
+-- where k are kept, the first k are all
+all-taken : (keeps : List Keep) (k : ℕ) → sharesKept keeps ≡ k → take k (sharePoints keeps) ≡ sharePoints keeps
+all-taken keeps k e = take-all k (sharePoints keeps) (omega (arith, length-sharePoints keeps))
 
 -- the sender has its place
 sender : (c : tie.Start) → c .args .m < 10
@@ -28,28 +51,31 @@ count-shares-requires c κs = search needs
 group-of-requires : tie.Need-group-of-requires
 group-of-requires c κs = ranges (c .before .before .before .before .before .args .x) (c .before .before .before .before .before .pre .0) .group
 
+cast-recovered-from : tie.Need-cast-recovered-from
+cast-recovered-from c = search needs
+
 recovered-from-requires : tie.Need-recovered-from-requires
 recovered-from-requires c κs =
-    let start = c .before .before .before .before .before .before in
+    let start = c .before .before .before .before .before .before .before in
     let h = start .pre .0 in (
-      group-ranges (start .args .x) h (c .group-of .ensures) .order,
-      rw (sym (c .before .before .before .count-shares .ensures) ∙ c .before .if1 .taken) (ranges (start .args .x) h .high),
+      group-ranges (start .args .x) h (c .before .group-of .ensures) .order,
+      ranges (start .args .x) h .high,
     )
 
 heard-with-share-requires : tie.Need-heard-with-share-requires
-heard-with-share-requires c κs = sender (c .before .before .before .before .before .before .before)
+heard-with-share-requires c κs = sender (c .before .before .before .before .before .before .before .before)
 
 returns : tie.Need-returns
 unfolding accepted shareStep recovering heard
 returns c =
-    let grouped = c .before .before in
+    let grouped = c .before .before .before in
     let counted = grouped .before .before .before in
     let a = counted .before .before .before .args in
     let kept = sharing (a .x) (a .m) (a .pair) in
     let all : sharesKept kept ≡ a .x .setup .k = sym (counted .count-shares .ensures) ∙ grouped .before .if1 .taken in
     let found =
     c .before .recovered-from .ensures
-    ∙ ap (λ G. recoveredFrom (G .q) (sharePoints kept)) (grouped .group-of .ensures) in
+    ∙ ap₂ (λ G. recoveredFrom (G .q)) (grouped .group-of .ensures) (all-taken kept (a .x .setup .k) all) in
     rw (c .heard-with-share .ensures, found, eq-eqb _ _ all)
 
 heard-with-share-requires-2 : tie.Need-heard-with-share-requires-2
@@ -76,6 +102,7 @@ take-share-spec =
     array-set-from-shares
     count-shares-requires
     group-of-requires
+    cast-recovered-from
     recovered-from-requires
     heard-with-share-requires
     returns

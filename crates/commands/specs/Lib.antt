@@ -1,0 +1,2 @@
+-- The laws that the proofs of the two commands share.
+pub mod Refusals

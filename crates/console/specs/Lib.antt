@@ -1,0 +1,2 @@
+-- What the readers of lines promise.
+pub mod Lines

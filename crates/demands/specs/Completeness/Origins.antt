@@ -1,0 +1,183 @@
+-- What stands behind each message that a box sends: an honest deal, a checked send, k checked points, a kept pair.
+--
+-- In order: what it is, by the kind of message; an answer and its bytes; the commands; a delivery; any call.
+-- Assumes nothing.
+use mathlib.Core.Path.{_≡_, refl, sym, ap, _∙_, subst}
+use mathlib.Core.Bool.{Bool, true}
+use mathlib.Core.List.{List, []}
+use Prim.Native.Nat.{ℕ, _+_, _-_, _<_}
+use native.Mathlib.Omega.{arith}
+use lib.Dec.{eqb}
+use lib.ListN.{replicate, take}
+use borrow.Author.Tests.{eqb-true}
+use Rattle.folds.specs.Tests.{pick-either}
+use Rattle.rules.specs.declared.Element.{Element}
+use Rattle.rules.specs.declared.Four.{Four}
+use Rattle.rules.specs.declared.Outcome.{Outcome}
+use Rattle.rules.specs.declared.Pair.{Pair}
+use Rattle.rules.specs.declared.Record.{Record}
+use Rattle.rules.specs.declared.Sent.{Sent}
+use Rattle.rules.specs.declared.Sent.the-variants.{Nothing, Send, Echo, Ready, Recovery}
+use Rattle.rules.specs.declared.SetUp.{SetUp}
+use Rattle.rules.specs.declared.Slot.{Slot}
+use Rattle.rules.specs.Messages.{Message, send, echo, ready, matrixIn, polynomialsIn, pairIn, messageIn, toEach}
+use Rattle.rules.specs.Dealing.{coinsKeep, matrixPasses, polynomialCheck}
+use Rattle.rules.specs.Record.{slotAt, matrixOf, isThere, countR, sharesKept}
+use Rattle.rules.specs.Steps.{Step, heard, points, readyFour, echoFour, ownSlot, freeSlot, slotFor, opened, echoed, readied, keeping, sendStep, readySent, echoAt, echoStep, completed, readyAt, readyStep, sharing, recovering, shareStep, messageStep, dealStep, completedShare, shareBytes, recoverStep}
+use Rattle.rules.specs.Answers.{accepted, refused, answered, firstOf, dealRows, deal, recover, refusalHeard, deliver, Done}
+use Rattle.rules.specs.Laws.DemandOne.{answered-either}
+use Rattle.rules.specs.Laws.Facts.{Side, byEcho, byReady}
+use Rattle.rules.specs.Laws.Sound.{facts-sound}
+use Rattle.rules.specs.Laws.Lengths.{take-written}
+use Rattle.rules.specs.Laws.RoundTrip.{is-send, is-echo, is-ready, is-recovery, by-tag}
+use Rattle.rules.specs.Laws.Room.{Found, room-echo, room-ready}
+use Rattle.rules.specs.Laws.Kept.{Passed, deal-passed}
+use Rattle.rules.specs.Laws.Kept.TakenSlot.{taken, firstAt}
+use Rattle.rules.specs.Laws.Kept.Changes.{Good}
+use Rattle.demands.specs.Histories.{Call, deals, gets, commanded, doing, wrote}
+use Rattle.demands.specs.Sharing.{group, order, dealtMatrix, dealtTo}
+use Rattle.demands.specs.Lives.Stepped.{stepOf, paired}
+use Rattle.demands.specs.Lives.Took.{slot-sent}
+use Rattle.demands.specs.Lives.Turns.{next}
+use Rattle.demands.specs.Lives.Deliveries.{number, has-passed, out-message}
+
+-- ---- what stands behind the bytes of a call
+
+-- what box u .i says to each j in a ready, from the slot that it has then
+abbrev pub readyOf : SetUp → Slot → ℕ → Message
+readyOf u slot j = ready (matrixOf slot) (readyFour (order u) (take (u .k) (points (slot .places))) j)
+
+abbrev pub Spoken : SetUp → Record → Call → Sent → List ℕ → Type 0
+Spoken u x c Nothing run = Unit {0}
+Spoken u x c Send run =
+    (secret : ℕ) × (coins : List ℕ)
+    × (coinsKeep (order u) (u .k) secret coins ≡ true)
+    × (u .i ≡ u .d)
+    × (run ≡ toEach u (λ j. send (dealtMatrix u secret coins) (dealtTo u secret coins j)))
+Spoken u x c Echo run =
+    (bytes : List ℕ)
+    × (matrixPasses (group u) (u .k) (matrixIn (u .k) bytes) ≡ true)
+    × (polynomialCheck (group u) (u .k) (matrixIn (u .k) bytes) (u .i) (polynomialsIn (u .k) bytes) ≡ true)
+    × (run ≡ toEach u (λ j. echo (matrixIn (u .k) bytes) (echoFour (order u) (u .k) (polynomialsIn (u .k) bytes) j)))
+Spoken u x c Ready run =
+    (s : ℕ) × (s < 20) × (isThere (slotAt (next x c) s .pair .kept) ≡ true) × (run ≡ toEach u (readyOf u (slotAt (next x c) s)))
+Spoken u x c Recovery run = run ≡ shareBytes u (completedShare x (x .progress .completion))
+
+-- ---- an answer and its bytes
+
+-- what holds of a step's, and of nothing, holds of an answer's
+answered-holds : (T : Sent → List ℕ → Type 0) (n : ℕ) (st : Step) (after : Record) (buffer : List ℕ) → T Nothing []
+    → (n ≡ 0 → T (st .sent) (st .bytes))
+    → T (answered n st after buffer .outcome .answer .sent) (wrote (answered n st after buffer))
+unfolding accepted refused
+answered-holds T n st after buffer a b =
+    answered-either n st after buffer (λ (d : Done). T (d .outcome .answer .sent) (wrote d))
+    (λ e. subst (T (st .sent)) (sym (take-written (st .bytes) buffer)) (b e)) (λ z. a)
+
+module _ (x : Record) where
+  -- ---- the commands
+
+  deals-spoken : (secret : ℕ) (coins : List ℕ) (lent : ℕ)
+      → Spoken (x .setup) x (deals secret coins lent) (doing x (deals secret coins lent) .outcome .answer .sent)
+      (wrote (doing x (deals secret coins lent)))
+  unfolding doing deal dealStep
+  deals-spoken secret coins lent =
+      answered-holds (Spoken (x .setup) x (deals secret coins lent)) (firstOf (dealRows x secret coins (replicate lent 0)))
+      (dealStep x secret coins) x (replicate lent 0) tt
+      (λ e.
+      let c = deal-passed x secret coins (replicate lent 0) e in
+      (secret, coins, c .keeps, eqb-true (x .setup .i) (x .setup .d) (c .dealer), refl))
+
+  commanded-spoken : (lent : ℕ)
+      → Spoken (x .setup) x (commanded lent) (doing x (commanded lent) .outcome .answer .sent) (wrote (doing x (commanded lent)))
+  unfolding doing recover recoverStep
+  commanded-spoken lent =
+      answered-holds (Spoken (x .setup) x (commanded lent)) _ (recoverStep x) x (replicate lent 0) tt (λ e. refl)
+
+  -- ---- a delivery
+
+  module _ (g : Good x) (sender : ℕ) (bytes : List ℕ) (lent : ℕ) where
+    abbrev it : Call
+    it = gets sender bytes lent
+
+    -- what a step sends
+    abbrev Tells : Step → Type 0
+    Tells st = Spoken (x .setup) x it (st .sent) (st .bytes)
+
+    -- an echo or a ready: the slot that it is taken into
+    module _ (b : Side) (C : List (List Element)) (f : Four) (out : doing x it .outcome ≡ accepted (stepOf b x (sender - 1) C f))
+        (found : Found x C (slotFor x C)) where
+      abbrev new : Slot
+      new = taken b (opened C (slotAt x (slotFor x C))) (sender - 1) f
+
+      abbrev sends : Bool
+      sends = firstAt (x .setup) b new
+
+      slot-now : sends ≡ true → slotAt (next x it) (slotFor x C) ≡ paired x new
+      unfolding accepted
+      slot-now e = ap (λ (o : Outcome). slotAt (o .next) (slotFor x C)) out ∙ slot-sent b x g (sender - 1) C f found e
+
+      -- ready is sent
+      sends-ready : sends ≡ true → Spoken (x .setup) x it Ready (toEach (x .setup) (readyOf (x .setup) new))
+      unfolding keeping matrixOf
+      sends-ready e =
+          let now = slot-now e in (
+            slotFor x C,
+            found .within,
+            ap (λ (w : Slot). isThere (w .pair .kept)) now,
+            ap (λ (w : Slot). toEach (x .setup) (readyOf (x .setup) w)) (sym now),
+          )
+
+    step-tells : (b : Side) (C : List (List Element)) (f : Four) → doing x it .outcome ≡ accepted (stepOf b x (sender - 1) C f)
+        → Found x C (slotFor x C) → Tells (stepOf b x (sender - 1) C f)
+    unfolding echoStep echoAt readyStep readyAt readySent completed echoed readied heard slotFor ownSlot freeSlot
+    step-tells byEcho C f out found =
+        pick-either Tells (sends byEcho C f out found) _ _ (sends-ready byEcho C f out found) (λ e. tt)
+    step-tells byReady C f out found =
+        pick-either Tells (sends byReady C f out found) _ _ (sends-ready byReady C f out found)
+        (λ e. pick-either Tells (eqb (countR (new byReady C f out found)) (x .setup .k + x .setup .t)) _ _ (λ q. tt) (λ q. tt))
+
+    share-tells : (p : Pair) → Tells (shareStep (heard x 4 (sender - 1)) (sender - 1) p)
+    unfolding shareStep recovering heard
+    share-tells p =
+        pick-either Tells (eqb (sharesKept (sharing x (sender - 1) p)) (x .setup .k)) _ _ (λ e. tt) (λ e. tt)
+
+    -- a message by its tag
+    abbrev says : Message
+    says = messageIn (x .setup .k) bytes
+
+    module _ (e : number x g sender bytes lent ≡ 0) where
+      abbrev came : Passed x sender bytes
+      came = has-passed x g sender bytes lent e
+
+      message-tells : Tells (messageStep x (sender - 1) says)
+      unfolding sendStep heard
+      message-tells =
+          by-tag k bytes (came .form)
+          (λ h. of _ (is-send k bytes h) (bytes, came .passes (omega arith), rw (is-send k bytes h) at (came .check), refl))
+          (λ h. of _ (is-echo k bytes h)
+          (step-tells byEcho _ _ (out-message x g sender bytes lent e _ (is-echo k bytes h))
+          (room-echo x (sender - 1) _ (facts-sound x (g .facts)) (came .within) (rw h at (came .unheard)))))
+          (λ h. of _ (is-ready k bytes h)
+          (step-tells byReady _ _ (out-message x g sender bytes lent e _ (is-ready k bytes h))
+          (room-ready x (sender - 1) _ (facts-sound x (g .facts)) (came .within) (rw h at (came .unheard)))))
+          (λ h. of _ (is-recovery k bytes h) (share-tells (pairIn bytes)))
+        where
+          k : ℕ
+          k = x .setup .k
+
+          of : (msg : Message) → says ≡ msg → Tells (messageStep x (sender - 1) msg) → Tells (messageStep x (sender - 1) says)
+          of msg h = subst (λ (m : Message). Tells (messageStep x (sender - 1) m)) (sym h)
+
+    gets-spoken : Spoken (x .setup) x it (doing x it .outcome .answer .sent) (wrote (doing x it))
+    unfolding doing deliver
+    gets-spoken =
+        answered-holds (Spoken (x .setup) x it) (number x g sender bytes lent)
+        (messageStep x (sender - 1) says) (refusalHeard (number x g sender bytes lent) x sender bytes)
+        (replicate lent 0) tt message-tells
+
+-- What any call on a good record has sent.
+pub spoken : (x : Record) → Good x → (c : Call) → Spoken (x .setup) x c (doing x c .outcome .answer .sent) (wrote (doing x c))
+spoken x g (deals secret coins lent) = deals-spoken x secret coins lent
+spoken x g (gets sender bytes lent) = gets-spoken x g sender bytes lent
+spoken x g (commanded lent) = commanded-spoken x lent

@@ -1,0 +1,227 @@
+-- Demand 3: to any k - 1 boxes without the dealer, two secrets look the same.
+--
+-- In the modules below, in this order: the moves (`Moves`), and what demand 3 is given (`Hypotheses`); what is computed from moved
+-- polynomials and points (`Values`); no check sees a move, and to the set there is none (`Unseen`); what a box sends in two runs
+-- (`SentTwice`); the steps (`Steps`) and calls (`Outcomes`) of a moved record; a message that comes in (`Arrivals`, `Deliveries`); the
+-- deal (`Dealt`); ready is sent for the dealt matrix alone (`Ripe`); one box in two runs (`TwoLives`).
+-- Here: one script for two deals; no recovery has been commanded; two histories that look the same; the two runs, box by box; what the
+-- set sees, and what the others hold; the statement.
+-- Assumes nothing.
+pub mod Moves
+pub mod Hypotheses
+pub mod Values
+pub mod Unseen
+pub mod SentTwice
+pub mod Steps
+pub mod Outcomes
+pub mod Arrivals
+pub mod Deliveries
+pub mod Dealt
+pub mod Ripe
+pub mod TwoLives
+use mathlib.Core.Path.{_≡_, refl, sym, ap, ap₂, _∙_, subst}
+use mathlib.Core.Bool.{true, false, not}
+use mathlib.Core.Logic.{inl, inr}
+use mathlib.Core.List.{List, [], _∷_, _++_, map}
+use Prim.Native.Nat.{ℕ, _<_}
+use lib.Dec.{eqb}
+use borrow.Author.Tests.{eqb-true, not-true}
+use Rattle.folds.specs.Tests.{_and_, and-left, and-right, pick-either, pick-two}
+use Rattle.rules.specs.declared.Record.{Record}
+use Rattle.rules.specs.declared.SetUp.{SetUp}
+use Rattle.rules.specs.Numbers.{groupKeeps, isBox, numbersKeep}
+use Rattle.rules.specs.Dealing.{coinsKeep}
+use Rattle.rules.specs.Record.{slotAt, matrixOf, countE, countR}
+use Rattle.demands.specs.Histories.{Class, Call, deals, gets, commanded, after, Event, deal-at, hand-on, forge, command-at, keeps, mayBreak, own, messageAt, handed, calls, recordOf, answers, seen}
+use Rattle.demands.specs.Sharing.{order}
+use Rattle.demands.specs.Matching.{Few, matching}
+use Moves.{Twice, numbers, inSet, coins′, movedSlot, slot-moved}
+use Hypotheses.{Given, zed-on-set}
+use SentTwice.{set-bytes}
+use Steps.{matrix-moved, e-moved, r-moved}
+use Arrivals.{forged, handed-on}
+use TwoLives.{unmarked-before, Both, both-new, both-deals, both-gets, both-commanded, Sent, both-sent}
+
+-- ---- one script for two deals
+
+-- the script, where the dealer deals this secret with these coins
+abbrev pub dealing : ℕ → List ℕ → Event → Event
+dealing secret coins (deal-at i s cs lent) = deal-at i secret coins lent
+dealing secret coins (hand-on from to place lent) = hand-on from to place lent
+dealing secret coins (forge from to bytes lent) = forge from to bytes lent
+dealing secret coins (command-at i lent) = command-at i lent
+
+unfoldable pub played : ℕ → List ℕ → List Event → List Event
+played secret coins script = map (dealing secret coins) script
+
+-- ---- no recovery has been commanded
+
+-- no box that keeps the rules has its mark; a command that was refused left none
+abbrev pub Uncommanded : Class → List Event → Type 0
+Uncommanded c es = (i : ℕ) → keeps c i ≡ true → recordOf c es i .progress .commanded ≡ false
+
+-- nor had one before the last event
+earlier : (c : Class) (e : Event) (es : List Event) → Uncommanded c (e ∷ es) → Uncommanded c es
+unfolding calls
+earlier c e es h i k = go e (h i k)
+  where
+    u : SetUp
+    u = own (c .numbers) i
+
+    Before : List Call → Type 0
+    Before cs = after u cs .progress .commanded ≡ false → after u (calls c es i) .progress .commanded ≡ false
+
+    one : (call : Call) → Before (call ∷ calls c es i)
+    one call = unmarked-before u call (calls c es i)
+
+    any : (from lent : ℕ) (l : List (List ℕ)) → Before (handed from lent l ++ calls c es i)
+    any from lent [] m = m
+    any from lent (bytes ∷ l) m = one (gets from bytes lent) m
+
+    go : (e : Event) → Before (calls c (e ∷ es) i)
+    go (deal-at at secret coins lent) =
+        pick-either Before (eqb at i and keeps c i) _ _ (λ e. one (deals secret coins lent)) (λ e m. m)
+    go (hand-on from to place lent) =
+        pick-either Before (eqb to i and keeps c i and keeps c from) _ _
+        (λ e. any from lent (messageAt (own (c .numbers) from) (calls c es from) to place)) (λ e m. m)
+    go (forge from to bytes lent) =
+        pick-either Before (eqb to i and keeps c i and not (keeps c from)) _ _ (λ e. one (gets from bytes lent)) (λ e m. m)
+    go (command-at at lent) = pick-either Before (eqb at i and keeps c i) _ _ (λ e. one (commanded lent)) (λ e m. m)
+
+-- ---- two histories that look the same
+
+-- two histories look the same to the set, and to whoever sees what the other boxes answer
+pub record Alike (c : Class) (es es′ : List Event) : Type 0 where
+  -- every byte delivered to the set
+  pub bytes : seen c es ≡ seen c es′
+  -- every answer of the others, whole: its number, what was sent, how many bytes, whether the box completed
+  pub told : (i : ℕ) → keeps c i ≡ true → answers (own (c .numbers) i) (calls c es i) ≡ answers (own (c .numbers) i) (calls c es′ i)
+  -- their matrices and counts
+  pub matrix : (i s : ℕ) → keeps c i ≡ true → s < 20 → matrixOf (slotAt (recordOf c es i) s) ≡ matrixOf (slotAt (recordOf c es′ i) s)
+  pub e : (i s : ℕ) → keeps c i ≡ true → s < 20 → countE (slotAt (recordOf c es i) s) ≡ countE (slotAt (recordOf c es′ i) s)
+  pub r : (i s : ℕ) → keeps c i ≡ true → s < 20 → countR (slotAt (recordOf c es i) s) ≡ countR (slotAt (recordOf c es′ i) s)
+  -- and the place of the matrix that they completed with
+  pub completed : (i : ℕ) → keeps c i ≡ true → recordOf c es i .progress .completion ≡ recordOf c es′ i .progress .completion
+
+-- ---- the two runs, box by box
+
+module _ (t : Twice) (h : Given t) where
+  abbrev first : List Event → List Event
+  first script = played (t .s) (t .coins) script
+
+  abbrev second : List Event → List Event
+  second script = played (t .s′) (coins′ t) script
+
+  -- what a box has at the end of a script
+  abbrev Linked : List Event → ℕ → Type 0
+  Linked script i = Both t i (calls (t .class) (first script) i) (calls (t .class) (second script) i)
+
+  box-of : (i : ℕ) → keeps (t .class) i ≡ true → isBox (numbers t) i ≡ true
+  unfolding keeps
+  box-of i e = and-left _ _ e
+
+  before : (e : Event) (es : List Event) → Uncommanded (t .class) (first (e ∷ es)) → Uncommanded (t .class) (first es)
+  unfolding played
+  before e es = earlier (t .class) (dealing (t .s) (t .coins) e) (first es)
+
+  -- a message handed on, if there is one
+  handed-linked : (i from lent : ℕ) → isBox (numbers t) i ≡ true → (l l′ : List (List ℕ)) (cs cs′ : List Call)
+      → Sent t from i l l′ → Both t i cs cs′ → after (own (numbers t) i) cs .progress .commanded ≡ false
+      → Both t i (handed from lent l ++ cs) (handed from lent l′ ++ cs′)
+  handed-linked i from lent b l l′ cs cs′ (inl w) v m = rw (w .0, w .1) v
+  handed-linked i from lent b l l′ cs cs′ (inr w) v m =
+      rw (w .2, w .3) (both-gets t h i b cs cs′ v from _ _ lent (handed-on t h i from (w .0) (w .1)) m)
+
+  linked : (script : List Event) → Uncommanded (t .class) (first script) → (i : ℕ) → keeps (t .class) i ≡ true → Linked script i
+  unfolding played calls
+  linked [] u i k = both-new t h i (box-of i k)
+  linked (deal-at at secret coins lent ∷ es) u i k =
+      let v = linked es (before (deal-at at secret coins lent) es u) i k in
+      pick-two (Both t i) (eqb at i and keeps (t .class) i) _ _ _ _
+      (λ e. both-deals t h i (box-of i k) _ _ v lent)
+      (λ e. v)
+  linked (hand-on from to place lent ∷ es) u i k =
+      let m = before (hand-on from to place lent) es u in
+      let v = linked es m i k in
+      pick-two (Both t i) (eqb to i and keeps (t .class) i and keeps (t .class) from) _ _ _ _
+      (λ e.
+      let kf = and-right (keeps (t .class) i) _ (and-right (eqb to i) _ e) in
+      let it : to ≡ i = eqb-true to i (and-left _ _ e) in
+      handed-linked i from lent (box-of i k) _ _ _ _
+      (subst (λ (j : ℕ). Sent t from j (messageAt (own (numbers t) from) (calls (t .class) (first es) from) to place)
+      (messageAt (own (numbers t) from) (calls (t .class) (second es) from) to place)) it
+      (both-sent t h from (box-of from kf) _ _ (linked es m from kf) to place (ap (isBox (numbers t)) it ∙ box-of i k)))
+      v (m i k))
+      (λ e. v)
+  linked (forge from to bytes lent ∷ es) u i k =
+      let m = before (forge from to bytes lent) es u in
+      let v = linked es m i k in
+      pick-two (Both t i) (eqb to i and keeps (t .class) i and not (keeps (t .class) from)) _ _ _ _
+      (λ e.
+      let n = not-true _ (and-right (keeps (t .class) i) _ (and-right (eqb to i) _ e)) in
+      both-gets t h i (box-of i k) _ _ v from bytes bytes lent (forged t h i from bytes n) (m i k))
+      (λ e. v)
+  linked (command-at at lent ∷ es) u i k =
+      let v = linked es (before (command-at at lent) es u) i k in
+      pick-two (Both t i) (eqb at i and keeps (t .class) i) _ _ _ _
+      (λ e. both-commanded t h i (box-of i k) _ _ v lent (rw e at (u i k)))
+      (λ e. v)
+
+  -- ---- what the set sees
+
+  set-same : (from to : ℕ) → isBox (numbers t) to ≡ true → inSet t to ≡ true
+      → (l l′ : List (List ℕ)) → Sent t from to l l′ → l ≡ l′
+  set-same from to b e l l′ (inl w) = w .0 ∙ sym (w .1)
+  set-same from to b e l l′ (inr w) =
+      w .2 ∙ ap (λ (m : List ℕ). m ∷ []) (sym (set-bytes t h from to (zed-on-set t h to b e) (w .0) (w .1))) ∙ sym (w .3)
+
+  same-seen : (script : List Event) → Uncommanded (t .class) (first script)
+      → seen (t .class) (first script) ≡ seen (t .class) (second script)
+  unfolding played seen mayBreak
+  same-seen [] u = refl
+  same-seen (deal-at at secret coins lent ∷ es) u = same-seen es (before (deal-at at secret coins lent) es u)
+  same-seen (hand-on from to place lent ∷ es) u =
+      let m = before (hand-on from to place lent) es u in
+      pick-two _≡_ (mayBreak (t .class) to and keeps (t .class) from) _ _ _ _
+      (λ e.
+      let kf = and-right (mayBreak (t .class) to) _ e in
+      let b = and-left (isBox (numbers t) to) _ (and-left _ _ e) in
+      ap₂ _++_
+      (set-same from to b (and-right (isBox (numbers t) to) _ (and-left _ _ e)) _ _
+      (both-sent t h from (box-of from kf) _ _ (linked es m from kf) to place b))
+      (same-seen es m))
+      (λ e. same-seen es m)
+  same-seen (forge from to bytes lent ∷ es) u = same-seen es (before (forge from to bytes lent) es u)
+  same-seen (command-at at lent ∷ es) u = same-seen es (before (command-at at lent) es u)
+
+  -- ---- and what the others hold
+
+  pub alike : (script : List Event) → Uncommanded (t .class) (first script) → Alike (t .class) (first script) (second script)
+  alike script u =
+      record {
+        bytes = same-seen script u;
+        told = λ i k. linked script u i k .told;
+        matrix = λ i s k l. sym (ap matrixOf (slot i s k) ∙ matrix-moved t i (slotAt (recordOf (t .class) (first script) i) s));
+        e = λ i s k l. sym (ap countE (slot i s k) ∙ e-moved t i (slotAt (recordOf (t .class) (first script) i) s));
+        r = λ i s k l. sym (ap countR (slot i s k) ∙ r-moved t i (slotAt (recordOf (t .class) (first script) i) s));
+        completed = λ i k. sym (ap (λ (y : Record). y .progress .completion) (linked script u i k .same));
+      }
+    where
+      slot : (i s : ℕ) → keeps (t .class) i ≡ true
+          → slotAt (recordOf (t .class) (second script) i) s ≡ movedSlot t i (slotAt (recordOf (t .class) (first script) i) s)
+      slot i s k = ap (λ (y : Record). slotAt y s) (linked script u i k .same) ∙ slot-moved t i (recordOf (t .class) (first script) i) s
+
+-- ---- the statement
+
+-- any class whose numbers keep their rules, any set of at most k - 1 boxes without the dealer, any two secrets below q, any
+-- coins for the one: with the matching coins for the other, every script that leaves no box commanded looks the same
+pub hides : (c : Class) → groupKeeps (c .numbers) ≡ true → numbersKeep (own (c .numbers) (c .numbers .d)) ≡ true
+    → Few (c .numbers) (c .breaks) → c .breaks (c .numbers .d) ≡ false
+    → (s s′ : ℕ) → s < order (c .numbers) → s′ < order (c .numbers)
+    → (coins : List ℕ) → coinsKeep (order (c .numbers)) (c .numbers .k) s coins ≡ true
+    → (script : List Event) → Uncommanded c (played s coins script)
+    → Alike c (played s coins script) (played s′ (matching (c .numbers) (c .breaks) s s′ coins) script)
+hides c group numbers few dealer s s′ low low′ coins keep script u =
+    alike (record { class = c; s = s; s′ = s′; coins = coins })
+    (record { group-keeps = group; numbers-keep = numbers; few = few; dealer = dealer; low = low; low′ = low′; coins-keep = keep })
+    script u

@@ -1,0 +1,169 @@
+-- The life of a box that keeps the rules, whatever it is told and sent: demand 2 over histories from set-up.
+--
+-- In the modules below: the terms (`Terms`); what a box holds for a matrix, as one slot (`Slots`, `Replaced`); the steps of checked
+-- messages (`Stepped`, `Took`); any call taken apart (`Turns`, `Deliveries`), and seen from one matrix (`Seen`); a life from its beginning (`Born`), and by induction over it each topic (`Counts`, `Points`, `Readies`, `Once`,
+-- `Recovered`). Here: the statements.
+-- Assumes nothing.
+pub mod Terms
+pub mod Slots
+pub mod Replaced
+pub mod Stepped
+pub mod Took
+pub mod Turns
+pub mod Deliveries
+pub mod Seen
+pub mod Born
+pub mod Counts
+pub mod Points
+pub mod Readies
+pub mod Once
+pub mod Recovered
+use mathlib.Core.Path.{_≡_, refl, sym, ap, _∙_, subst}
+use mathlib.Core.Bool.{true, false}
+use mathlib.Core.List.{List, _∷_, _++_}
+use Prim.Native.Nat.{ℕ, _+_, _<_, _≤_}
+use native.Mathlib.Omega.{arith}
+use lib.Dec.{eqb, leb}
+use lib.ListN.{take}
+use borrow.Author.Tests.{le-leb}
+use Rattle.folds.specs.Tests.{pick, or-right}
+use Rattle.folds.specs.Below.{countBelow, anyBelow-here}
+use Rattle.rules.specs.declared.Answer.{Answer}
+use Rattle.rules.specs.declared.Completion.the-variants.{With}
+use Rattle.rules.specs.declared.Element.{Element}
+use Rattle.rules.specs.declared.Four.{Four}
+use Rattle.rules.specs.declared.Kept.the-variants.{There}
+use Rattle.rules.specs.declared.Pair.{Pair}
+use Rattle.rules.specs.declared.Point.the-variants.{Held}
+use Rattle.rules.specs.declared.Sent.the-variants.{Echo}
+use Rattle.rules.specs.declared.SetUp.{SetUp}
+use Rattle.rules.specs.declared.Slot.{Slot}
+use Rattle.rules.specs.Numbers.{echoQuorum}
+use Rattle.rules.specs.Matrices.{entry}
+use Rattle.rules.specs.Messages.{echo, tagIn, matrixIn, polynomialsIn, toEach}
+use Rattle.rules.specs.Dealing.{committed, pointCheck, shareCheck}
+use Rattle.rules.specs.Record.{slotAt, placeAt, shareAt, isHeld, isThere, held, matrixOf, countE, countR, sound}
+use Rattle.rules.specs.Steps.{points, sharePoints, pairFrom, echoFour, recoveredFrom, ownSlot}
+use Rattle.rules.specs.Answers.{setUp}
+use Rattle.rules.specs.Laws.Shape.{Shaped}
+use Rattle.rules.specs.Laws.Sound.{facts-sound}
+use Rattle.demands.specs.Histories.{Call, gets, doing, after, answers, wrote}
+use Rattle.demands.specs.Sharing.{group, order, size}
+unfoldable pub use Terms.*
+use Slots.{slotOf, kept-of, slot-used, slot-there}
+use Deliveries.{Echoed, echo-exact}
+use Born.{good, own-setup, numbers-keep, facts-at}
+use Counts.{e-is, r-is, points-are, said-passes}
+use Readies.{used-there, readies-are, kept-now, kept-on, pair-passes}
+use Once.{echo-once, complete-once}
+use Recovered.{shares-are, recovered-is, share-pass, report-open}
+
+-- ---- the statements, of a box that set-up accepted and of any calls
+
+module _ (u : SetUp) (taken : setUp u .answer .no ≡ 0) (cs : List Call) where
+  pub life-sound : (sound (after u cs) ≡ true) × Shaped (after u cs) × (after u cs .setup ≡ u)
+  life-sound = (facts-sound (after u cs) (good u taken cs .facts), good u taken cs .shape, own-setup u taken cs)
+
+  -- e and r are the numbers of different senders whose echo or ready for the matrix was checked
+  pub e-counts : (C : List (List Element)) → eOf (after u cs) C ≡ countBelow 10 (λ m. checked u cs 2 (m + 1) C)
+  e-counts C = e-is u taken C cs
+
+  pub r-counts : (C : List (List Element)) → rOf (after u cs) C ≡ countBelow 10 (λ m. checked u cs 3 (m + 1) C)
+  r-counts C = r-is u taken C cs
+
+  -- a place holds the point of its sender's first checked echo or ready for its matrix, and is silent without one
+  pub places-say : (s m : ℕ) → s < 20 → m < 10 → slotAt (after u cs) s .used ≡ true
+      → placeAt (slotAt (after u cs) s) m .point ≡ said u cs (m + 1) (matrixOf (slotAt (after u cs) s))
+  places-say s m a l e =
+      ap (λ (w : Slot). placeAt w m .point) (sym (slot-used (after u cs) (good u taken cs) s a e))
+      ∙ points-are u taken (matrixOf (slotAt (after u cs) s)) m l cs
+
+  -- a kept recovery share is its sender's checked one, and absent without one
+  pub shares-say : (m : ℕ) → m < 10 → shareAt (after u cs .shares) m ≡ shareSaid u cs (m + 1)
+  shares-say m l = shares-are u taken m l cs
+
+  -- the recovered pair is that of the kept shares alone
+  pub recovered-from : (p : Pair) → after u cs .recovered .kept ≡ There p → p ≡ recoveredFrom (order u) (sharePoints (after u cs .shares))
+  recovered-from p e = recovered-is u taken p cs e
+
+  -- a box sends echo at most once, ready at most once for each matrix, and completes at most once
+  pub one-echo : howMany (λ (a : Answer). isEcho (a .sent)) (answers u cs) ≤ 1
+  one-echo = echo-once u taken cs
+
+  pub one-ready : (C : List (List Element)) → readiesSent u cs C ≤ 1
+  one-ready C =
+      rw (readies-are u taken C cs)
+      (elim (isThere (slotOf (after u cs) C .pair .kept)) as (λ b. pick {A = ℕ} b 1 0 ≤ 1) [ true ↦ omega arith | false ↦ omega arith ])
+
+  pub one-completion : howMany (λ (a : Answer). a .completed) (answers u cs) ≤ 1
+  one-completion = complete-once u taken cs
+
+  -- a pair is kept for a matrix once ready was sent for it
+  pub kept-when-ready : (C : List (List Element)) → isThere (keptFor (after u cs) C) ≡ eqb (readiesSent u cs C) 1
+  kept-when-ready C =
+      rw (kept-of (after u cs) C, readies-are u taken C cs)
+      (elim (isThere (slotOf (after u cs) C .pair .kept)) as (λ b. b ≡ eqb (pick {A = ℕ} b 1 0) 1) [ true ↦ refl | false ↦ refl ])
+
+  -- it is the interpolation, at that moment, of the k lowest points held
+  pub kept-then : (c : Call) (C : List (List Element)) → readiesSent u (c ∷ cs) C ≡ readiesSent u cs C + 1
+      → keptFor (after u (c ∷ cs)) C
+      ≡ There (pairFrom (order u) (take (u .k) (points (slotAt (after u (c ∷ cs)) (ownSlot (after u (c ∷ cs)) C) .places))))
+  kept-then c C e =
+      let now = kept-now u taken C c cs e in
+      let here = slot-there (after u (c ∷ cs)) C (ap isThere now) in
+      kept-of (after u (c ∷ cs)) C ∙ now ∙ ap (λ (w : Slot). There (pairFrom (order u) (take (u .k) (points (w .places))))) here
+
+  -- and never changes
+  pub kept-ever : (C : List (List Element)) (p : Pair) (later : List Call) → keptFor (after u cs) C ≡ There p
+      → keptFor (after u (later ++ cs)) C ≡ There p
+  kept-ever C p later e = kept-of (after u (later ++ cs)) C ∙ kept-on u taken C cs p later (sym (kept-of (after u cs) C) ∙ e)
+
+  -- a held point passed the point check, and a kept pair passes the share check
+  pub held-passes : (s m : ℕ) (f : Four) → s < 20 → m < 10 → placeAt (slotAt (after u cs) s) m .point ≡ Held f
+      → pointCheck (group u) (u .k) (matrixOf (slotAt (after u cs) s)) (u .i) (m + 1) f ≡ true
+  held-passes s m f a l e =
+      said-passes u taken (matrixOf (slotAt (after u cs) s)) (m + 1) f cs (sym (places-say s m a l used) ∙ e)
+    where
+      used : slotAt (after u cs) s .used ≡ true
+      used = good u taken cs .facts .slots s a .inUse ∙ anyBelow-here (held (slotAt (after u cs) s)) 10 m l (ap isHeld e)
+
+  pub kept-passes : (s : ℕ) (p : Pair) → s < 20 → slotAt (after u cs) s .pair .kept ≡ There p
+      → shareCheck (group u) (u .k) (matrixOf (slotAt (after u cs) s)) (u .i) p ≡ true
+  kept-passes s p a e =
+      pair-passes u taken (matrixOf (slotAt (after u cs) s)) cs p
+      (ap (λ (w : Slot). w .pair .kept) (slot-used (after u cs) (good u taken cs) s a used) ∙ e)
+    where
+      used : slotAt (after u cs) s .used ≡ true
+      used =
+          used-there u (slotAt (after u cs) s) (facts-at u taken cs s a)
+          (let low = size u (numbers-keep u taken) .low in omega arith) (ap isThere e)
+
+  -- a completed box has a kept pair in its completed place
+  pub completed-kept : (s : ℕ) → after u cs .progress .completion ≡ With s
+      → (s < 20) × (isThere (slotAt (after u cs) s .pair .kept) ≡ true)
+  completed-kept s e =
+      let x = after u cs in
+      let facts = good u taken cs .facts in
+      let done = facts .completion s e in
+      let many = done .readies in
+      let enough = le-leb (x .setup .k) (countR (slotAt x s)) (omega arith) in
+      (done .within, facts .slots s (done .within) .right ∙ or-right (leb (echoQuorum (x .setup)) (countE (slotAt x s))) _ enough)
+
+  -- a kept recovery share passes the share check against the completed matrix
+  pub shares-pass : (s m : ℕ) (p : Pair) → after u cs .progress .completion ≡ With s → m < 10 → shareAt (after u cs .shares) m ≡ There p
+      → shareCheck (group u) (u .k) (matrixOf (slotAt (after u cs) s)) (m + 1) p ≡ true
+  shares-pass s m p d l e = share-pass u taken s m p l cs d e
+
+  -- the pair that a box reports opens the first entry of the matrix that it completed with
+  pub report-opens : (s : ℕ) (p : Pair) → after u cs .progress .completion ≡ With s → after u cs .recovered .kept ≡ There p
+      → committed (group u) (p .first .0) (p .second .0) ≡ entry (matrixOf (slotAt (after u cs) s)) 0 0
+  report-opens s p d e = report-open u taken s p cs d e
+
+  -- a checked send has exactly its echo
+  pub exact-echo : (sender lent : ℕ) (bytes : List ℕ) → tagIn bytes ≡ 1 → doing (after u cs) (gets sender bytes lent) .outcome .answer .no ≡ 0
+      → (doing (after u cs) (gets sender bytes lent) .outcome .answer .sent ≡ Echo)
+      × (wrote (doing (after u cs) (gets sender bytes lent))
+      ≡ toEach u (λ j. echo (matrixIn (u .k) bytes) (echoFour (order u) (u .k) (polynomialsIn (u .k) bytes) j)))
+  exact-echo sender lent bytes h e =
+      subst (λ (v : SetUp). Echoed v bytes (doing (after u cs) (gets sender bytes lent))) (own-setup u taken cs)
+      (echo-exact (after u cs) (good u taken cs) sender lent bytes h e)

@@ -1,0 +1,189 @@
+-- The step of a checked echo, ready or recovery share, part by part of the record.
+--
+-- In order: completion; an echo or a ready; a recovery share.
+-- Assumes nothing.
+use mathlib.Core.Path.{_≡_, refl}
+use mathlib.Core.Bool.{Bool, true, false, not}
+use mathlib.Core.List.{List}
+use Prim.Native.Nat.{ℕ, _+_}
+use native.Mathlib.Omega.{arith}
+use lib.Dec.{eqb}
+use lib.ListN.{set, take}
+use Rattle.folds.specs.Tests.{_and_, pick}
+use Rattle.rules.specs.declared.Completion.{Completion}
+use Rattle.rules.specs.declared.Completion.the-variants.{NotYet, With}
+use Rattle.rules.specs.declared.Element.{Element}
+use Rattle.rules.specs.declared.Four.{Four}
+use Rattle.rules.specs.declared.Kept.the-variants.{There}
+use Rattle.rules.specs.declared.Pair.{Pair}
+use Rattle.rules.specs.declared.Record.{Record}
+use Rattle.rules.specs.declared.Slot.{Slot}
+use Rattle.rules.specs.Record.{groupIn, slotAt, isDone, countR, sharesKept}
+use Rattle.rules.specs.Steps.{Step, heard, points, pairFrom, ownSlot, freeSlot, slotFor, opened, echoed, readied, keeping, readySent, echoAt, echoStep, firstCompletion, completing, completed, readyAt, readyStep, recoveredFrom, sharePoints, sharing, recovering, shareStep}
+use Rattle.rules.specs.Laws.Facts.{Side, byEcho, byReady, ear}
+use Rattle.rules.specs.Laws.Kept.TakenSlot.{taken, firstAt}
+use Rattle.demands.specs.Lives.Terms.{isEcho, isReady}
+
+-- ---- completion
+
+-- the box completed just now exactly if it had not completed and now has
+abbrev pub JustNow : Completion → Completion → Bool → Type 0
+JustNow c c′ now = now ≡ (not (isDone c) and isDone c′)
+
+-- a completion stays
+abbrev pub Stays : Completion → Completion → Type 0
+Stays c c′ = (s : ℕ) → c ≡ With s → c′ ≡ With s
+
+pub as-before : (c : Completion) → JustNow c c false
+as-before NotYet = refl
+as-before (With s) = refl
+
+first-now : (c : Completion) (s : ℕ) → JustNow c (firstCompletion c s) (not (isDone c))
+first-now NotYet s = refl
+first-now (With r) s = refl
+
+first-stays : (c : Completion) (s : ℕ) → Stays c (firstCompletion c s)
+first-stays NotYet s r e = let z : _≡_ {A = ℕ} 0 1 = cc in absurd (omega arith)
+first-stays (With a) s r e = e
+
+-- ---- an echo or a ready
+
+-- the step of a checked message of side b
+abbrev pub stepOf : Side → Record → ℕ → List (List Element) → Four → Step
+stepOf byEcho x m C f = echoStep (heard x 2 m) m C f
+stepOf byReady x m C f = readyStep (heard x 3 m) m C f
+
+-- a slot with the pair interpolated from its k lowest points
+abbrev pub paired : Record → Slot → Slot
+paired x v = keeping v (pairFrom (groupIn x .q) (take (x .setup .k) (points (v .places))))
+
+-- slot v is put into place s, paired if ready is sent
+pub record Stepped (x : Record) (b : Side) (m s : ℕ) (v : Slot) (sends : Bool) (st : Step) : Type 0 where
+  pub slots : st .after .slots ≡ set (x .slots) s (pick sends (paired x v) v)
+  pub ready : isReady (st .sent) ≡ sends
+  pub echo : isEcho (st .sent) ≡ false
+  pub setup : st .after .setup ≡ x .setup
+  pub ears : st .after .heard ≡ heard x (ear b + 1) m .heard
+  pub shares : st .after .shares ≡ x .shares
+  pub recovered : st .after .recovered ≡ x .recovered
+  pub done : JustNow (x .progress .completion) (st .after .progress .completion) (st .completed)
+  pub still : Stays (x .progress .completion) (st .after .progress .completion)
+
+by-test : (P : Bool → Step → Type 0) (t : Bool) (a b : Step) → P true a → P false b → P t (pick t a b)
+by-test P true a b h g = h
+by-test P false a b h g = g
+
+by-tests : (P : Bool → Step → Type 0) (t r : Bool) (a b c : Step) → P true a → P false b → P false c → P t (pick t a (pick r b c))
+by-tests P true r a b c h g i = h
+by-tests P false true a b c h g i = g
+by-tests P false false a b c h g i = i
+
+pub stepped : (b : Side) (x : Record) (m : ℕ) (C : List (List Element)) (f : Four)
+    → Stepped x b m (slotFor x C) (taken b (opened C (slotAt x (slotFor x C))) m f)
+    (firstAt (x .setup) b (taken b (opened C (slotAt x (slotFor x C))) m f)) (stepOf b x m C f)
+unfolding echoStep echoAt readyStep readyAt readySent completed completing echoed readied heard slotFor ownSlot freeSlot
+stepped byEcho x m C f =
+    let s = slotFor x C in
+    let v = taken byEcho (opened C (slotAt x s)) m f in
+    by-test (Stepped x byEcho m s v) (firstAt (x .setup) byEcho v) _ _
+    (record {
+      slots = refl;
+      ready = refl;
+      echo = refl;
+      setup = refl;
+      ears = refl;
+      shares = refl;
+      recovered = refl;
+      done = as-before (x .progress .completion);
+      still = λ a e. e;
+    })
+    (record {
+      slots = refl;
+      ready = refl;
+      echo = refl;
+      setup = refl;
+      ears = refl;
+      shares = refl;
+      recovered = refl;
+      done = as-before (x .progress .completion);
+      still = λ a e. e;
+    })
+stepped byReady x m C f =
+    let s = slotFor x C in
+    let v = taken byReady (opened C (slotAt x s)) m f in
+    by-tests (Stepped x byReady m s v) (firstAt (x .setup) byReady v) (eqb (countR v) (x .setup .k + x .setup .t)) _ _ _
+    (record {
+      slots = refl;
+      ready = refl;
+      echo = refl;
+      setup = refl;
+      ears = refl;
+      shares = refl;
+      recovered = refl;
+      done = as-before (x .progress .completion);
+      still = λ a e. e;
+    })
+    (record {
+      slots = refl;
+      ready = refl;
+      echo = refl;
+      setup = refl;
+      ears = refl;
+      shares = refl;
+      recovered = refl;
+      done = first-now (x .progress .completion) s;
+      still = first-stays (x .progress .completion) s;
+    })
+    (record {
+      slots = refl;
+      ready = refl;
+      echo = refl;
+      setup = refl;
+      ears = refl;
+      shares = refl;
+      recovered = refl;
+      done = as-before (x .progress .completion);
+      still = λ a e. e;
+    })
+
+-- ---- a recovery share
+
+-- the share p of sender m + 1 is kept, and a pair recovered if it is the k-th
+pub record Shared (x : Record) (m : ℕ) (p : Pair) (last : Bool) (st : Step) : Type 0 where
+  pub slots : st .after .slots ≡ x .slots
+  pub setup : st .after .setup ≡ x .setup
+  pub ears : st .after .heard ≡ heard x 4 m .heard
+  pub progress : st .after .progress ≡ x .progress
+  pub shares : st .after .shares ≡ sharing x m p
+  pub recovered : st .after .recovered .kept
+      ≡ pick last (There (recoveredFrom (groupIn x .q) (sharePoints (sharing x m p)))) (x .recovered .kept)
+  pub ready : isReady (st .sent) ≡ false
+  pub echo : isEcho (st .sent) ≡ false
+  pub completed : st .completed ≡ false
+
+pub shared : (x : Record) (m : ℕ) (p : Pair) → Shared x m p (eqb (sharesKept (sharing x m p)) (x .setup .k)) (shareStep (heard x 4 m) m p)
+unfolding shareStep recovering heard
+shared x m p =
+    by-test (Shared x m p) (eqb (sharesKept (sharing x m p)) (x .setup .k)) _ _
+    (record {
+      slots = refl;
+      setup = refl;
+      ears = refl;
+      progress = refl;
+      shares = refl;
+      recovered = refl;
+      ready = refl;
+      echo = refl;
+      completed = refl;
+    })
+    (record {
+      slots = refl;
+      setup = refl;
+      ears = refl;
+      progress = refl;
+      shares = refl;
+      recovered = refl;
+      ready = refl;
+      echo = refl;
+      completed = refl;
+    })

@@ -1,0 +1,120 @@
+-- Of a life, whatever a box is told and sent: what has been checked in it, what the box holds for a matrix, what it has sent.
+--
+-- In that order.
+-- Assumes nothing.
+use mathlib.Core.Bool.{Bool, true, false}
+use mathlib.Core.List.{List, [], _∷_}
+use Prim.Native.Nat.{ℕ, _+_}
+use lib.Dec.{eqb, ltb}
+use Rattle.folds.specs.Tests.{_and_, _or_, pick}
+use Rattle.rules.specs.declared.Element.{Element}
+use Rattle.rules.specs.declared.Four.{Four}
+use Rattle.rules.specs.declared.Kept.{Kept}
+use Rattle.rules.specs.declared.Kept.the-variants.{Absent, There}
+use Rattle.rules.specs.declared.Pair.{Pair}
+use Rattle.rules.specs.declared.Point.{Point}
+use Rattle.rules.specs.declared.Point.the-variants.{Silent}
+use Rattle.rules.specs.declared.Record.{Record}
+use Rattle.rules.specs.declared.Sent.{Sent}
+use Rattle.rules.specs.declared.Sent.the-variants.{Nothing, Send, Echo, Ready, Recovery}
+use Rattle.rules.specs.declared.SetUp.{SetUp}
+use Rattle.rules.specs.Messages.{tagIn, matrixIn, fourIn, pairIn}
+use Rattle.rules.specs.Record.{slotAt, sameMatrix, countE, countR}
+use Rattle.rules.specs.Steps.{ownSlot, firstPoint}
+use Rattle.demands.specs.Histories.{Call, deals, gets, commanded, doing, after}
+
+-- ---- what has been checked
+
+-- this call is a message of sender m with this tag, for this matrix, and is accepted: it was checked
+unfoldable pub checksNow : Record → Call → ℕ → ℕ → List (List Element) → Bool
+checksNow x (deals secret coins lent) tag m C = false
+checksNow x (gets sender bytes lent) tag m C =
+    eqb (doing x (gets sender bytes lent) .outcome .answer .no) 0
+    and eqb sender m
+    and eqb (tagIn bytes) tag
+    and sameMatrix (x .setup .k) (matrixIn (x .setup .k) bytes) C
+checksNow x (commanded lent) tag m C = false
+
+abbrev pub senderOf : Call → ℕ
+senderOf (deals secret coins lent) = 0
+senderOf (gets sender bytes lent) = sender
+senderOf (commanded lent) = 0
+
+-- some call so far was
+unfoldable pub checked : SetUp → List Call → ℕ → ℕ → List (List Element) → Bool
+checked u [] tag m C = false
+checked u (c ∷ cs) tag m C = checksNow (after u cs) c tag m C or checked u cs tag m C
+
+-- an echo or a ready of sender m for this matrix
+abbrev pub takesNow : Record → Call → ℕ → List (List Element) → Bool
+takesNow x c m C = checksNow x c 2 m C or checksNow x c 3 m C
+
+-- the four numbers of a call's message
+abbrev pub fourOf : Record → Call → Four
+fourOf x (deals secret coins lent) = fourIn (x .setup .k) []
+fourOf x (gets sender bytes lent) = fourIn (x .setup .k) bytes
+fourOf x (commanded lent) = fourIn (x .setup .k) []
+
+-- the point of the first checked echo or ready of sender m for this matrix; silent, as long as there is none
+unfoldable pub said : SetUp → List Call → ℕ → List (List Element) → Point
+said u [] m C = Silent
+said u (c ∷ cs) m C =
+    pick (takesNow (after u cs) c m C) (firstPoint (said u cs m C) (fourOf (after u cs) c)) (said u cs m C)
+
+-- the call is a recovery share of sender m that is accepted
+unfoldable pub shareNow : Record → Call → ℕ → Bool
+shareNow x (deals secret coins lent) m = false
+shareNow x (gets sender bytes lent) m =
+    eqb (doing x (gets sender bytes lent) .outcome .answer .no) 0 and eqb sender m and eqb (tagIn bytes) 4
+shareNow x (commanded lent) m = false
+
+abbrev pub pairOf : Call → Pair
+pairOf (deals secret coins lent) = pairIn []
+pairOf (gets sender bytes lent) = pairIn bytes
+pairOf (commanded lent) = pairIn []
+
+-- the checked recovery share of sender m; absent, as long as there is none
+unfoldable pub shareSaid : SetUp → List Call → ℕ → Kept
+shareSaid u [] m = Absent
+shareSaid u (c ∷ cs) m = pick (shareNow (after u cs) c m) (There (pairOf c)) (shareSaid u cs m)
+
+-- ---- what a box holds for a matrix
+
+-- e and r of a matrix: those of the place it is in, or 0
+unfoldable pub eOf : Record → List (List Element) → ℕ
+eOf x C = pick (ltb (ownSlot x C) 20) (countE (slotAt x (ownSlot x C))) 0
+
+unfoldable pub rOf : Record → List (List Element) → ℕ
+rOf x C = pick (ltb (ownSlot x C) 20) (countR (slotAt x (ownSlot x C))) 0
+
+-- the pair kept for a matrix
+unfoldable pub keptFor : Record → List (List Element) → Kept
+keptFor x C = pick (ltb (ownSlot x C) 20) (slotAt x (ownSlot x C) .pair .kept) Absent
+
+-- ---- what a box has sent
+
+abbrev pub isEcho : Sent → Bool
+isEcho Nothing = false
+isEcho Send = false
+isEcho Echo = true
+isEcho Ready = false
+isEcho Recovery = false
+
+abbrev pub isReady : Sent → Bool
+isReady Nothing = false
+isReady Send = false
+isReady Echo = false
+isReady Ready = true
+isReady Recovery = false
+
+-- how many of a list pass a test
+unfoldable pub howMany : {A : Type 0} → (A → Bool) → List A → ℕ
+howMany p [] = 0
+howMany p (a ∷ l) = pick (p a) 1 0 + howMany p l
+
+-- how often ready was sent for a matrix: by a call that is an echo or a ready for it
+unfoldable pub readiesSent : SetUp → List Call → List (List Element) → ℕ
+readiesSent u [] C = 0
+readiesSent u (c ∷ cs) C =
+    pick (isReady (doing (after u cs) c .outcome .answer .sent) and takesNow (after u cs) c (senderOf c) C) 1 0
+    + readiesSent u cs C

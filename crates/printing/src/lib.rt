@@ -1,0 +1,120 @@
+// What the console and the class programs print: words and numbers, the line of an answer, and messages in hexadecimal. What a box holds
+// is in `showing`.
+pub mod showing;
+
+use rules::Answer;
+use rules::Pair;
+use rules::Sent;
+ghost use Prim.Native.Nat.{_≤_};
+
+pub fn words(text: &[u8]) {
+    io::write_all(1, text);
+}
+
+// Of five digits at most, as every number is that a box tells.
+pub fn number(x: usize) {
+    if x < 100_000 {
+        let mut space = [0u8; 5];
+        let n = text::write::put_decimal(&mut space, 0, x as u32);
+        let page: &[u8] = &space;
+        words(&page[0..n]);
+    }
+}
+
+// A word and a number behind it.
+pub fn numbered(word: &[u8], x: usize) {
+    words(word);
+    number(x);
+}
+
+// A space before each number.
+fn pair(pair: Pair) {
+    let first = pair.first;
+    let second = pair.second;
+    numbered(b" ", first.0 as usize);
+    numbered(b" ", second.0 as usize);
+}
+
+// ---- the line of an answer
+
+// The tag of what was sent; 0 for nothing.
+pub fn tag_of(sent: Sent) -> u8
+    ensures { λ r. ⌜ r ≤ 4 ⌝ }
+{
+    match sent {
+        Sent::Nothing => 0,
+        Sent::Send => 1,
+        Sent::Echo => 2,
+        Sent::Ready => 3,
+        Sent::Recovery => 4,
+    }
+}
+
+pub fn tag_word(tag: u8) {
+    match tag {
+        1 => words(b" send"),
+        2 => words(b" echo"),
+        3 => words(b" ready"),
+        4 => words(b" recovery"),
+        _ => words(b" nothing"),
+    }
+}
+
+fn yes_or_no(answer: bool) {
+    if answer {
+        words(b" yes");
+    } else {
+        words(b" no");
+    }
+}
+
+// answer NO SENT BYTES COMPLETED RECOVERED S S'
+pub fn answer(a: Answer) {
+    let sent = a.sent;
+    let recovered = a.pair;
+    numbered(b"answer ", a.no as usize);
+    tag_word(tag_of(sent));
+    numbered(b" ", a.bytes);
+    yes_or_no(a.completed);
+    yes_or_no(a.recovered);
+    pair(recovered);
+    words(b"\n");
+}
+
+// ---- messages
+
+// The message to box j: 199 bytes at most.
+fn message(j: usize, bytes: &[u8]) {
+    let n = bytes.len();
+    if 256 < n {
+        return;
+    }
+    let mut space = [0u8; 512];
+    let m = text::hexadecimal::put_hex(&mut space, 0, bytes, 0, n);
+    let page: &[u8] = &space;
+    numbered(b"to ", j);
+    words(b" ");
+    words(&page[0..m]);
+    words(b"\n");
+}
+
+// The n messages of a call at the front of the buffer, to box 1 first.
+pub fn messages(n: usize, bytes: usize, out: &[u8]) {
+    if n == 0 {
+        return;
+    }
+    if out.len() < bytes {
+        return;
+    }
+    let size = bytes / n;
+    if size == 0 {
+        return;
+    }
+    let mut at: usize = 0;
+    let mut j: usize = 0;
+    while size <= bytes - at {
+        j += 1;
+        message(j, &out[at..at + size]);
+        at += size;
+    }
+}

@@ -1,0 +1,26 @@
+-- `text::read::number_at` meets its contract: each number of a line is a decimal. Assumes nothing.
+use borrow.Author.Needs.{needs}
+use mathlib.Core.Path.{ap, _∙_}
+use Rattle.rules.specs.Text.{isDecimal, decimalAt}
+use Rattle.text.specs.Laws.{decimal-number, number-decimal}
+use Rattle.text.proofs.read.number_at.Statement.{statement}
+use Rattle.text.proofs.read.number_at.Tie as tie
+
+number-place-requires : tie.Need-number-place-requires
+number-place-requires c κs = search needs
+
+decimal-at-requires : tie.Need-decimal-at-requires
+decimal-at-requires c κs = search needs
+
+returns : tie.Need-returns
+returns c =
+    let start = c .before .before .before in
+    let given = start .args in
+    let b = given .b .now in
+    let place = c .before .number-place .ensures in
+    decimal-number b (c .before .number-place .result) (c .decimal-at .ensures)
+    (ap (isDecimal b) place ∙ number-decimal b (given .i) (given .m) (given .j) (start .pre .0) (start .pre .1))
+    ∙ ap (decimalAt b) place
+
+pub number-at-spec : {M : Type 1} → statement M
+number-at-spec = tie.close (tie.spec number-place-requires decimal-at-requires returns)
