@@ -6,8 +6,6 @@ use rules::Record;
 
 // "a completed box has one completed matrix in use, with r ≥ k + t"
 pub fn completion(completed: Record) {
-    let behind = changes::progress(completed, false, Completion::With(20), false);
-    line(b"completed with place 20", behind);
     let last = Completion::With(18446744073709551615);
     let huge = changes::progress(completed, false, last, false);
     line(b"completed with a huge place", huge);
@@ -59,9 +57,6 @@ pub fn above_n(new: Record, begun: Record, recovered: Record) {
     let echo = changes::mark(held, 0, 2, 5, true);
     let echoed = changes::heard(echo, 2, 5, true);
     line(b"sender above n marked for echo", echoed);
-    let ready = changes::mark(held, 0, 3, 5, true);
-    let readied = changes::heard(ready, 3, 5, true);
-    line(b"sender above n marked for ready", readied);
     let one = changes::share(recovered, 2, changes::absent());
     line(
         b"sender above n with a share",
@@ -69,8 +64,4 @@ pub fn above_n(new: Record, begun: Record, recovered: Record) {
     );
     let tag_1 = changes::heard(new, 1, 5, true);
     line(b"sender above n heard for tag 1", tag_1);
-    let tag_2 = changes::heard(new, 2, 5, true);
-    line(b"sender above n heard for tag 2", tag_2);
-    let tag_3 = changes::heard(new, 3, 5, true);
-    line(b"sender above n heard for tag 3", tag_3);
 }

@@ -14,7 +14,6 @@ pub fn matrices_and_marks(begun: Record, completed: Record) {
     let no_echo = changes::mark(twice, 1, 2, 1, false);
     let ready = changes::heard(changes::mark(no_echo, 1, 3, 1, true), 3, 1, true);
     line(b"two matrices alike", ready);
-    line(b"entry 0", changes::entry(begun, 0, 0, 0, 0));
     line(b"entry above p", changes::entry(begun, 0, 0, 0, 25));
     line(b"entry of wrong order", changes::entry(begun, 0, 0, 0, 5));
     let echoes = changes::entry(twice, 1, 0, 0, 8);
@@ -35,9 +34,6 @@ pub fn places(begun: Record) {
     let echo = changes::mark(begun, 0, 2, 3, true);
     let echoed = changes::heard(echo, 2, 3, true);
     line(b"echo mark with a silent place", echoed);
-    let ready = changes::mark(begun, 0, 3, 3, true);
-    let readied = changes::heard(ready, 3, 3, true);
-    line(b"ready mark with a silent place", readied);
     let silent = changes::at(begun, 1, Point::Silent);
     let none = changes::mark(silent, 0, 2, 1, false);
     line(b"in use with no place held", none);
