@@ -15,7 +15,7 @@ fn coins() -> [u16; 127] {
     made
 }
 
-// The sends, of 199 bytes each, stand at the front of the post. In a script tag 5 commands a box to recover.
+// The sends, of 199 bytes each, stand at the front of the post.
 fn main() {
     let mut post = [0u8; 81920];
     let all_coins = coins();
@@ -34,10 +34,8 @@ fn main() {
     let sent = classroom::pass_all(dealt, 1, 1, 10, &mut post, true);
     let echoed = classroom::pass_all(sent, 2, 10, 10, &mut post, true);
     let completed = classroom::pass_all(echoed, 3, 10, 10, &mut post, true);
-    let first = [5u8, 1, 0, 5, 2, 0, 5, 3, 0, 5, 4, 0, 5, 5, 0];
-    let last = [5u8, 6, 0, 5, 7, 0, 5, 8, 0, 5, 9, 0, 5, 10, 0];
-    let half = classroom::play(completed, &first, &mut post, true);
-    let commanded = classroom::play(half, &last, &mut post, true);
+    let commands = b"c1. c2. c3. c4. c5. c6. c7. c8. c9. c0.";
+    let commanded = classroom::play(completed, commands, &mut post, true);
     let recovered = classroom::pass_all(commanded, 4, 10, 10, &mut post, true);
     classroom::show(recovered, 10);
 }

@@ -3,6 +3,7 @@
 // In order: the room; the moves; a script of moves; rounds of moves. With `aloud` a move prints its answer as one line.
 pub mod post;
 
+use rules::Answer;
 use rules::Outcome;
 use rules::Record;
 use rules::SetUp;
@@ -26,8 +27,9 @@ pub fn set_up(u: SetUp, aloud: bool) -> Room {
             own.i = at as u32 + 1;
             let o = station::set_up(own);
             let x = o.next;
+            let answer = o.answer;
             room.boxes[at] = x;
-            told(at + 1, b" set up: ", o, aloud);
+            told(at + 1, b" set up: ", answer, aloud);
         }
         at += 1;
     }
@@ -48,11 +50,21 @@ pub fn show(room: Room, n: usize)
 
 // ---- the moves
 
-fn told(b: usize, call: &[u8], o: Outcome, aloud: bool) {
+fn told(b: usize, call: &[u8], answer: Answer, aloud: bool) {
     if aloud {
-        let answer = o.answer;
         printing::numbered(b"box ", b);
         printing::words(call);
+        printing::answer(answer);
+    }
+}
+
+// The line names the tag that the message has.
+fn told_delivery(to: usize, from: usize, tag: u8, answer: Answer, aloud: bool) {
+    if aloud {
+        printing::numbered(b"box ", to);
+        printing::numbered(b" from ", from);
+        printing::tag_word(tag);
+        printing::words(b": ");
         printing::answer(answer);
     }
 }
@@ -82,7 +94,7 @@ pub fn deal(room: Room, b: usize, secret: u32, coins: &[u16], post: &mut [u8], a
     let x = room.boxes[at];
     let mut out = [0u8; 2048];
     let o = station::deal(x, secret, coins, &mut out);
-    told(b, b" deals: ", o, aloud);
+    told(b, b" deals: ", o.answer, aloud);
     ended(room, b, o, &out, post)
 }
 
@@ -93,11 +105,11 @@ fn command(room: Room, b: usize, post: &mut [u8], aloud: bool) -> Room
     let x = room.boxes[at];
     let mut out = [0u8; 2048];
     let o = station::command_recovery(x, &mut out);
-    told(b, b" recovers: ", o, aloud);
+    told(b, b" recovers: ", o.answer, aloud);
     ended(room, b, o, &out, post)
 }
 
-// What box `from` last sent to box `to` with this tag is delivered there. The line names the tag that the message has.
+// What box `from` last sent to box `to` with this tag is delivered there.
 fn pass(room: Room, tag: u8, from: usize, to: usize, post: &mut [u8], aloud: bool) -> Room
     requires { ⌜ (1 ≤ tag) × (tag ≤ 4) × (1 ≤ from) × (from ≤ 10) × (1 ≤ to) × (to ≤ 10) ⌝ }
 {
@@ -113,20 +125,36 @@ fn pass(room: Room, tag: u8, from: usize, to: usize, post: &mut [u8], aloud: boo
     let mut out = [0u8; 2048];
     let kind = post[at];
     let o = station::deliver(x, from as u32, &post[at..end], &mut out);
-    if aloud {
-        let answer = o.answer;
-        printing::numbered(b"box ", to);
-        printing::numbered(b" from ", from);
-        printing::tag_word(kind);
-        printing::words(b": ");
-        printing::answer(answer);
-    }
+    told_delivery(to, from, kind, o.answer, aloud);
     ended(room, to, o, &out, post)
 }
 
-// ---- a script: triples tag, from, to; tag 5 commands box `from` to recover
+// ---- a script: moves of a letter and two digits, with a space between two moves. A digit names its box, 0 box 10. `s13` delivers to box 3
+// what box 1 sent as a send; `e`, `r`, `h` an echo, a ready, a recovery share; `c1.` commands box 1 to recover.
 
-// A triple with a number out of range is skipped.
+fn tag_of(letter: u8) -> u8 {
+    match letter {
+        b's' => 1,
+        b'e' => 2,
+        b'r' => 3,
+        b'h' => 4,
+        b'c' => 5,
+        _ => 0,
+    }
+}
+
+// 0 where there is none.
+fn box_of(digit: u8) -> u8 {
+    if digit == b'0' {
+        return 10;
+    }
+    if digit < b'1' {
+        return 0;
+    }
+    digit - b'0'
+}
+
+// Tag 5 commands box `from` to recover. A move with a number out of range is skipped.
 pub fn step(room: Room, tag: u8, from: u8, to: u8, post: &mut [u8], aloud: bool) -> Room {
     if from < 1 {
         return room;
@@ -159,15 +187,11 @@ pub fn play(room: Room, script: &[u8], post: &mut [u8], aloud: bool) -> Room {
         if script.len() - at < 3 {
             return after;
         }
-        after = step(
-            after,
-            script[at],
-            script[at + 1],
-            script[at + 2],
-            post,
-            aloud,
-        );
-        at += 3;
+        let tag = tag_of(script[at]);
+        let from = box_of(script[at + 1]);
+        let to = box_of(script[at + 2]);
+        after = step(after, tag, from, to, post, aloud);
+        at += 4;
     }
     after
 }

@@ -29,7 +29,7 @@ pub fn message(b: usize, tag: u8, to: usize, k: u32) -> Part
             end: first,
         };
     }
-    let len = messages::read::whole_length(tag, k as usize);
+    let len = reading::whole_length(tag, k as usize);
     if 199 < len {
         return Part {
             at: first,

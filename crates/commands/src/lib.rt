@@ -9,24 +9,24 @@ pub fn deal(x: Record, secret: u32, coins: &[u16], out: &mut [u8]) -> Outcome
     ensures { λ o. ⌜ Deals x secret (now (coins .entry)) (now (out .entry)) o (now (out .exit)) ⌝ }
 {
     if out.len() < SetUp::LENT {
-        return steps::take::refuse(x, 15);
+        return steps::refuse(x, 15);
     }
     if !soundness::is_sound(x) {
-        return steps::take::refuse(x, 12);
+        return steps::refuse(x, 12);
     }
     let u = x.setup;
     if u.i != u.d {
-        return steps::take::refuse(x, 13);
+        return steps::refuse(x, 13);
     }
     let progress = x.progress;
     if progress.dealt {
-        return steps::take::refuse(x, 13);
+        return steps::refuse(x, 13);
     }
     let group = numbers::group_of(u);
     if !dealing::coins_keep(group.q, u.k as usize, secret, coins) {
-        return steps::take::refuse(x, 14);
+        return steps::refuse(x, 14);
     }
-    steps::take::take_deal(out, x, secret, coins)
+    steps::take_deal(out, x, secret, coins)
 }
 
 // Refusals 15, 12, 13.
@@ -34,18 +34,18 @@ pub fn command_recovery(x: Record, out: &mut [u8]) -> Outcome
     ensures { λ o. ⌜ Recovers x (now (out .entry)) o (now (out .exit)) ⌝ }
 {
     if out.len() < SetUp::LENT {
-        return steps::take::refuse(x, 15);
+        return steps::refuse(x, 15);
     }
     if !soundness::is_sound(x) {
-        return steps::take::refuse(x, 12);
+        return steps::refuse(x, 12);
     }
     let progress = x.progress;
     let completion = progress.completion;
     if !slots::is_done(completion) {
-        return steps::take::refuse(x, 13);
+        return steps::refuse(x, 13);
     }
     if progress.commanded {
-        return steps::take::refuse(x, 13);
+        return steps::refuse(x, 13);
     }
-    steps::take::take_command(out, x)
+    steps::take_command(out, x)
 }

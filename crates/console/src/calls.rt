@@ -188,7 +188,7 @@ fn deliver(bench: Bench, line: &[u8], out: &mut [u8]) -> Bench {
 
 // ---- help
 
-fn help() {
+fn help(bench: Bench) -> Bench {
     printing::words(
         b"setup G N T K I D S       a new box: group, n, t, k, its number, dealer, session\n",
     );
@@ -199,38 +199,71 @@ fn help() {
     printing::words(b"deliver SENDER HEX        a message of a sender; - for no bytes\n");
     printing::words(b"recover                   the recovery command\n");
     printing::words(b"show                      what the box holds\n");
+    bench
 }
 
 // ---- a line
 
-// The call that a line makes, with the buffer that is lent.
-fn call(bench: Bench, line: &[u8], out: &mut [u8]) -> Bench {
+enum Command {
+    SetUp,
+    Lend,
+    Deal,
+    Deliver,
+    Recover,
+    Show,
+    Help,
+    Bad,
+}
+
+fn command_of(line: &[u8]) -> Command {
     if text::read::word_at(line, 0, b"setup ") {
-        return set_up(bench, line);
+        return Command::SetUp;
     }
     if text::read::word_at(line, 0, b"lend ") {
-        return lend(bench, line);
+        return Command::Lend;
     }
     if text::read::word_at(line, 0, b"deal ") {
-        return deal(bench, line, out);
+        return Command::Deal;
     }
     if text::read::word_at(line, 0, b"deliver ") {
-        return deliver(bench, line, out);
+        return Command::Deliver;
     }
     if text::read::word_at(line, 0, b"recover\n") {
-        let o = station::command_recovery(bench.x, out);
-        return told(bench.lent, o, out);
+        return Command::Recover;
     }
     if text::read::word_at(line, 0, b"show\n") {
-        let x = bench.x;
-        printing::showing::show(x);
-        return bench;
+        return Command::Show;
     }
     if text::read::word_at(line, 0, b"help\n") {
-        help();
-        return bench;
+        return Command::Help;
     }
-    bad_line(bench)
+    Command::Bad
+}
+
+fn recover(bench: Bench, out: &mut [u8]) -> Bench {
+    let o = station::command_recovery(bench.x, out);
+    told(bench.lent, o, out)
+}
+
+fn show(bench: Bench) -> Bench {
+    let x = bench.x;
+    printing::showing::show(x);
+    bench
+}
+
+// The call that a line makes, with the buffer that is lent.
+fn call(bench: Bench, line: &[u8], out: &mut [u8]) -> Bench {
+    let command = command_of(line);
+    match command {
+        Command::SetUp => set_up(bench, line),
+        Command::Lend => lend(bench, line),
+        Command::Deal => deal(bench, line, out),
+        Command::Deliver => deliver(bench, line, out),
+        Command::Recover => recover(bench, out),
+        Command::Show => show(bench),
+        Command::Help => help(bench),
+        Command::Bad => bad_line(bench),
+    }
 }
 
 // The buffer has 4,096 bytes.

@@ -19,18 +19,18 @@ pub fn deliver_send(x: Record, m: usize, bytes: &[u8], out: &mut [u8]) -> Outcom
     let u = x.setup;
     let k = u.k as usize;
     let group = numbers::group_of(u);
-    let c = messages::read::read_matrix(bytes, k);
+    let c = reading::read_matrix(bytes, k);
     if !checking::matrix_passes(group, k, c) {
-        return steps::take::refuse(anew::heard_for(x, 1, m), 8);
+        return steps::refuse(anew::heard_for(x, 1, m), 8);
     }
-    let all = messages::read::read_polynomials(bytes, k);
+    let all = reading::read_polynomials(bytes, k);
     if !checking::polynomials_below(group.q, k, all) {
-        return steps::take::refuse(anew::heard_for(x, 1, m), 9);
+        return steps::refuse(anew::heard_for(x, 1, m), 9);
     }
     if !checking::polynomial_check(group, k, c, u.i as u16, all) {
-        return steps::take::refuse(anew::heard_for(x, 1, m), 10);
+        return steps::refuse(anew::heard_for(x, 1, m), 10);
     }
-    steps::take::take_send(out, x, m, c, all)
+    steps::take_send(out, x, m, c, all)
 }
 
 // An echo or a ready: they differ in the step that takes them.
@@ -41,21 +41,21 @@ pub fn deliver_point(x: Record, tag: u8, m: usize, bytes: &[u8], out: &mut [u8])
     let u = x.setup;
     let k = u.k as usize;
     let group = numbers::group_of(u);
-    let c = messages::read::read_matrix(bytes, k);
+    let c = reading::read_matrix(bytes, k);
     if !checking::matrix_passes(group, k, c) {
-        return steps::take::refuse(anew::heard_for(x, tag as usize, m), 8);
+        return steps::refuse(anew::heard_for(x, tag as usize, m), 8);
     }
-    let four = messages::read::read_four(bytes, k);
+    let four = reading::read_four(bytes, k);
     if !checking::four_below(group.q, four) {
-        return steps::take::refuse(anew::heard_for(x, tag as usize, m), 9);
+        return steps::refuse(anew::heard_for(x, tag as usize, m), 9);
     }
     if !checking::point_check(group, k, c, u.i as u16, m as u16 + 1, four) {
-        return steps::take::refuse(anew::heard_for(x, tag as usize, m), 10);
+        return steps::refuse(anew::heard_for(x, tag as usize, m), 10);
     }
     if tag == 2 {
-        return steps::take::take_echo(out, x, m, c, four);
+        return steps::take_echo(out, x, m, c, four);
     }
-    steps::take::take_ready(out, x, m, c, four)
+    steps::take_ready(out, x, m, c, four)
 }
 
 // The share check against the completed matrix.
@@ -83,12 +83,12 @@ pub fn deliver_share(x: Record, m: usize, bytes: &[u8], out: &mut [u8]) -> Outco
 {
     let u = x.setup;
     let group = numbers::group_of(u);
-    let pair = messages::read::read_pair(bytes);
+    let pair = reading::read_pair(bytes);
     if !checking::pair_below(group.q, pair) {
-        return steps::take::refuse(x, 9);
+        return steps::refuse(x, 9);
     }
     if !share_passes(x, group, m as u16 + 1, pair) {
-        return steps::take::refuse(x, 10);
+        return steps::refuse(x, 10);
     }
-    steps::take::take_share(x, m, pair)
+    steps::take_share(x, m, pair)
 }

@@ -28,7 +28,7 @@ use Rattle.rules.specs.declared.SetUp.{SetUp}
 use Rattle.rules.specs.Numbers.{element, logarithm}
 use Rattle.rules.specs.Matrices.{coefficient, coefficient₂}
 use Rattle.rules.specs.Dealing.{fOf, f′Of, coinsKeep, committed, commitment, alongY, alongX, polynomialsOf}
-use Rattle.rules.specs.Laws.Numbers.{order-above}
+use Rattle.rules.specs.Laws.Numbers.{group-sizes}
 use Rattle.rules.specs.Laws.Matrices.{matrix-same, row-within}
 use Rattle.rules.specs.Laws.Generator.{logarithm-some, logarithm-below, committed-moves}
 use Rattle.rules.specs.Laws.Dealing.{fOf-at, f′Of-at, alongY-at, alongX-at, coins-count, coin-low}
@@ -259,7 +259,7 @@ module _ (u : SetUp) (sound : Sound u) (A : ℕ → Bool) (few : Few u A) (s s�
   z-on-set m h l e =
       let q = order u in
       let boxes = size u sound .boxes in
-      let above = order-above u (sound .group-keeps) in
+      let above = group-sizes u (sound .group-keeps) .above in
       let here : m - 1 + 1 ≡ m = omega arith in
       let at : factor q A m (m - 1) ≡ 1 + (q - inverse q m) * m =
       ap (λ t. pick (A t) (1 + (q - inverse q t) * m) 1) here ∙ pick-true (A m) _ 1 e in

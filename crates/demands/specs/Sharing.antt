@@ -29,7 +29,7 @@ use Rattle.rules.specs.Matrices.{entry, coefficient, coefficient₂, α, α′,
 use Rattle.rules.specs.Dealing.{fOf, f′Of, coinsKeep, committed, commitment, alongY, alongX, polynomialsOf, valueAt, inGroup, matrixPasses, polynomialsBelow, fourBelow, pairBelow, polynomialCheck, pointCheck, shareCheck}
 use Rattle.rules.specs.Steps.{Said, through, pairFrom, readyFour, echoFour, recoveredFrom}
 use Rattle.rules.specs.Answers.{noPair}
-use Rattle.rules.specs.Laws.Numbers.{Sizes, sizes, GroupRule, group-rule, order-above}
+use Rattle.rules.specs.Laws.Numbers.{Sizes, sizes, GroupRule, group-rule, group-sizes}
 use Rattle.rules.specs.Laws.Matrices.{entry-at, square-some}
 use Rattle.rules.specs.Laws.Dealing.{alongY-at, alongX-at, crossed, first-value, secret-low, coins-count, coin-low, f-first, f′-first}
 use Rattle.rules.specs.Laws.Checks.{in-group, matrix-passes, alongColumn, alongRow, entry-below, entry-member, column-member, row-member, opened-columns, opened-rows, polynomial-checks, polynomial-columns, polynomial-rows, point-checks, point-α, point-β, share-checks, share-opens, polynomials-below, echo-below, ready-below, pairFrom-below}
@@ -106,7 +106,7 @@ module _ (u : SetUp) (s : Sound u) where
           below = λ i l.
               let high = d .boxes i l .1 in
               let few = size .boxes in
-              let above = order-above u (s .group-keeps) in
+              let above = group-sizes u (s .group-keeps) .above in
               omega arith;
           apart = d .apart;
         }

@@ -26,7 +26,7 @@ use Rattle.rules.specs.Matrices.{entry}
 use Rattle.rules.specs.Dealing.{committed, matrixPasses, pairBelow, shareCheck}
 use Rattle.rules.specs.Record.{nothing, shareAt, isThere}
 use Rattle.rules.specs.Steps.{sharePoints, recoveredFrom}
-use Rattle.rules.specs.Sheet.{sheetSetUp, matrixPlace, sheetMatrix, boxesPlace, sheetShares, firstLineKeeps, restKeeps, verdict, isVerified, verifiedShares, boxLines, secretLine, lastLine, recovered, bodyPrinted, printed}
+use Rattle.rules.specs.Sheet.{sheetSetUp, matrixPlace, sheetMatrix, boxesPlace, sheetShares, firstLineKeeps, restKeeps, verdict, isVerified, verifiedShares, boxLines, secretLine, lastLine, sheetLines, bodyPrinted, printed}
 use Rattle.demands.specs.Sharing.{shares-open}
 use Rattle.demands.specs.Lives.Points.{lowest-differ}
 
@@ -80,7 +80,7 @@ module _ (b : List ℕ) where
 
   -- such a sheet prints a line for each box and the secret's
   pub sheet-prints : Opens → printed b ≡ boxLines (groupOf (numbers .group)) (numbers .k) matrix (numbers .n) says ++ secretLine secret (take (numbers .k) (sharePoints verified))
-  unfolding printed bodyPrinted recovered lastLine
+  unfolding printed bodyPrinted sheetLines lastLine
   sheet-prints o = rw (o .first, o .group, o .sizes, o .rest, o .passes, le-ltb _ _ (o .enough))
 
   -- what is verified of a box of the sheet, and of one above n

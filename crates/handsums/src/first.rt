@@ -1,36 +1,56 @@
 // Group 1, n 4, t 1, k 2; f = 5 + 3y + 2x + 4xy, f' = 1 + 6y + 7x + 9xy.
+use crate::boxes;
 use crate::lines;
-use crate::points;
-use crate::printing;
-use crate::recovery;
+use printing::number;
+use printing::numbered;
+use printing::words;
 use rules::Element;
 use rules::Exponent;
+use rules::Four;
 use rules::Group;
 use rules::Pair;
 use rules::SetUp;
 ghost use Prim.Native.Nat.{_≤_, _<_};
 
-// P1 and P2.
-fn dealt(q: u16, f: [[Exponent; 8]; 8], f2: [[Exponent; 8]; 8], c: [[Element; 8]; 8])
-    requires { ⌜ 0 < q ⌝ }
-{
-    printing::words(b"P1 ");
-    lines::commitment(2, c);
-    printing::words(b"\nP2 ");
-    lines::shares(q, 2, 4, f, f2);
-    printing::words(b"\n");
-}
-
 // P3 and P4.
-fn shares_checked(group: Group, c: [[Element; 8]; 8])
+fn zeros_checked(group: Group, c: [[Element; 8]; 8])
     requires { ⌜ (0 < group .p) × (0 < group .q) ⌝ }
 {
-    let zeros = points::pair(0, 0);
-    printing::words(b"P3 ");
+    let zeros = Pair {
+        first: Exponent(0),
+        second: Exponent(0),
+    };
+    words(b"\nP3 ");
     lines::share_checked(group, 2, c, 3, zeros);
-    printing::words(b"\nP4 ");
+    words(b"\nP4 ");
     lines::share_checked(group, 2, c, 2, zeros);
-    printing::words(b"\n");
+}
+
+// The slip of taking a row's points from α.
+fn exchanged(four: Four) -> Four {
+    let alpha = four.alpha;
+    let alpha2 = four.alpha2;
+    let beta = four.beta;
+    let beta2 = four.beta2;
+    Four {
+        alpha: beta,
+        alpha2: beta2,
+        beta: alpha,
+        beta2: alpha2,
+    }
+}
+
+// P6: a(0) from the points of boxes 2 and 3, and from the same with α and β exchanged.
+fn share_from_points(q: u16, from_2: Four, from_3: Four)
+    requires { ⌜ 10 ≤ q ⌝ }
+{
+    let right = boxes::share_from(q, from_2, from_3);
+    let exchanged_2 = exchanged(from_2);
+    let exchanged_3 = exchanged(from_3);
+    let slip = boxes::share_from(q, exchanged_2, exchanged_3);
+    numbered(b"\nP6 a(0) = ", right.0 as usize);
+    numbered(b", and ", slip.0 as usize);
+    words(b" from the alphas");
 }
 
 // P5 and P6: box 1 gets the points of boxes 2 and 3.
@@ -38,57 +58,55 @@ fn points_taken(group: Group, f: [[Exponent; 8]; 8], f2: [[Exponent; 8]; 8], c: 
     requires { ⌜ (0 < group .p) × (10 ≤ group .q) ⌝ }
 {
     let q = group.q;
-    let from_2 = points::point_from(q, 2, f, f2, 2, 1);
-    let from_3 = points::point_from(q, 2, f, f2, 3, 1);
-    printing::words(b"P5 ");
+    let from_2 = boxes::point_from(q, 2, f, f2, 2, 1);
+    let from_3 = boxes::point_from(q, 2, f, f2, 3, 1);
+    words(b"\nP5 ");
     lines::point_checked(group, 2, c, 1, 2, from_2);
-    printing::words(b"\nP6 ");
-    lines::share_from_points(q, from_2, from_3);
-    printing::words(b"\n");
+    share_from_points(q, from_2, from_3);
 }
 
 // P7.
 fn recovered(q: u16, of_1: Pair, f: [[Exponent; 8]; 8], f2: [[Exponent; 8]; 8])
     requires { ⌜ 10 ≤ q ⌝ }
 {
-    let of_2 = points::share_of(q, 2, f, f2, 2);
-    let of_3 = points::share_of(q, 2, f, f2, 3);
-    printing::words(b"P7 1 and 2 recover ");
-    printing::pair(recovery::from_two(q, of_1, 2, of_2));
-    printing::words(b"; 1 and 3 recover ");
-    printing::pair(recovery::from_two(q, of_1, 3, of_3));
-    printing::words(b"\n");
+    let of_2 = boxes::share_of(q, 2, f, f2, 2);
+    let of_3 = boxes::share_of(q, 2, f, f2, 3);
+    words(b"\nP7 1 and 2 recover ");
+    lines::pair(boxes::from_two(q, of_1, 2, of_2));
+    words(b"; 1 and 3 recover ");
+    lines::pair(boxes::from_two(q, of_1, 3, of_3));
 }
 
 // P8: verified shares need not agree on the secret.
 fn another_share(group: Group, of_1: Pair, c: [[Element; 8]; 8])
     requires { ⌜ (0 < group .p) × (10 ≤ group .q) ⌝ }
 {
-    let q = group.q;
-    let share = points::pair(0, 1);
-    let pair = recovery::from_two(q, of_1, 2, share);
-    printing::words(b"P8 ");
+    let share = Pair {
+        first: Exponent(0),
+        second: Exponent(1),
+    };
+    words(b"\nP8 ");
     lines::share_checked(group, 2, c, 2, share);
-    printing::words(b"; with box 1 it recovers ");
-    printing::pair(pair);
-    printing::words(b", which opens ");
-    lines::opened(group, pair);
-    printing::words(b"\n");
+    words(b"; with box 1 it recovers ");
+    let pair = boxes::from_two(group.q, of_1, 2, share);
+    lines::pair(pair);
+    let first = pair.first;
+    let second = pair.second;
+    let opened = arithmetic::commit(group, first, second);
+    numbered(b", which opens ", opened.0 as usize);
 }
 
 // Half of P9: C, and what goes to box 1.
-fn sent(group: Group, secret: u16, coins: &[u16; 7])
+fn sent(word: &[u8], group: Group, secret: u16, coins: &[u16; 7])
     requires { ⌜ (0 < group .p) × (0 < group .q) ⌝ }
 {
-    let q = group.q;
     let f = dealing::from_coins(2, secret, coins, 0);
     let f2 = dealing::from_coins(2, secret, coins, 4);
-    let c = dealing::commit_all(group, 2, f, f2);
-    lines::commitment(2, c);
-    printing::words(b" and a, a', b, b' of box 1 = ");
-    printing::polynomials(2, dealing::polynomials_for(q, 2, f, f2, 1));
-    printing::words(b" for ");
-    printing::number(secret);
+    words(word);
+    lines::matrix(2, dealing::commit_all(group, 2, f, f2));
+    words(b" and a, a', b, b' of box 1 = ");
+    lines::polynomials(2, dealing::polynomials_for(group.q, 2, f, f2, 1));
+    numbered(b" for ", secret as usize);
 }
 
 // P9: two secrets, with the coins that match.
@@ -97,14 +115,11 @@ fn same_sends(group: Group)
 {
     let coins = [3u16, 2, 4, 1, 6, 7, 9];
     let matching = [2u16, 1, 5, 5, 2, 3, 2];
-    printing::words(b"P9 ");
-    sent(group, 5, &coins);
-    printing::words(b"; ");
-    sent(group, 6, &matching);
-    printing::words(b"\n");
+    sent(b"\nP9 C = ", group, 5, &coins);
+    sent(b"; C = ", group, 6, &matching);
 }
 
-fn quorum(n: u32, t: u32, k: u32)
+fn quorum(at: usize, n: u32, t: u32, k: u32)
     requires { ⌜ (n ≤ 10) × (t ≤ 10) ⌝ }
 {
     let setup = SetUp {
@@ -116,40 +131,42 @@ fn quorum(n: u32, t: u32, k: u32)
         d: 1,
         session: 7,
     };
-    let e = setup.echo_quorum();
-    io::print_decimal(1, e as u64);
+    lines::comma(at);
+    number(setup.echo_quorum() as usize);
 }
 
 // P10.
 fn quorums() {
-    printing::words(b"P10 E = ");
-    quorum(4, 1, 2);
-    printing::words(b", ");
-    quorum(7, 2, 3);
-    printing::words(b", ");
-    quorum(10, 1, 8);
-    printing::words(b"\n");
+    words(b"\nP10 E = ");
+    quorum(0, 4, 1, 2);
+    quorum(1, 7, 2, 3);
+    quorum(2, 10, 1, 8);
+    words(b"\n");
 }
 
-// What the calls ask of the row of the table is tested, not proved.
-pub fn sums(group: Group) {
-    if group.p == 0 {
-        return;
-    }
-    if group.q < 10 {
-        return;
-    }
-    let q = group.q;
+// P1 to P8.
+fn dealt(group: Group, f: [[Exponent; 8]; 8], f2: [[Exponent; 8]; 8])
+    requires { ⌜ (0 < group .p) × (10 ≤ group .q) ⌝ }
+{
+    let c = dealing::commit_all(group, 2, f, f2);
+    let of_1 = boxes::share_of(group.q, 2, f, f2, 1);
+    words(b"P1 C = ");
+    lines::matrix(2, c);
+    words(b"\nP2 shares ");
+    lines::shares(group.q, 2, 4, f, f2);
+    zeros_checked(group, c);
+    points_taken(group, f, f2, c);
+    recovered(group.q, of_1, f, f2);
+    another_share(group, of_1, c);
+}
+
+pub fn sums(group: Group)
+    requires { ⌜ (0 < group .p) × (10 ≤ group .q) ⌝ }
+{
     let coins = [3u16, 2, 4, 1, 6, 7, 9];
     let f = dealing::from_coins(2, 5, &coins, 0);
     let f2 = dealing::from_coins(2, 5, &coins, 4);
-    let c = dealing::commit_all(group, 2, f, f2);
-    let of_1 = points::share_of(q, 2, f, f2, 1);
-    dealt(q, f, f2, c);
-    shares_checked(group, c);
-    points_taken(group, f, f2, c);
-    recovered(q, of_1, f, f2);
-    another_share(group, of_1, c);
+    dealt(group, f, f2);
     same_sends(group);
     quorums();
 }

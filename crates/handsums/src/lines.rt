@@ -1,33 +1,108 @@
-// The parts of a line that say what a sum gave.
-use crate::points;
-use crate::printing;
-use crate::recovery;
+// The parts of a line that say what a sum gave; a comma and a space stand between two numbers of a list.
+use crate::boxes;
+use printing::number;
+use printing::numbered;
+use printing::words;
 use rules::Element;
 use rules::Exponent;
 use rules::Four;
 use rules::Group;
 use rules::Pair;
+use rules::Polynomials;
 ghost use Prim.Native.Nat.{_≤_, _<_};
 
-pub fn commitment(k: usize, c: [[Element; 8]; 8])
+// Before every part of a list but the first, which stands at 0.
+pub fn comma(at: usize) {
+    if 0 < at {
+        words(b", ");
+    }
+}
+
+fn listed(at: usize, x: u16) {
+    comma(at);
+    number(x as usize);
+}
+
+pub fn pair(pair: Pair) {
+    let first = pair.first;
+    let second = pair.second;
+    words(b"(");
+    listed(0, first.0);
+    listed(1, second.0);
+    words(b")");
+}
+
+fn point(four: Four) {
+    let alpha = four.alpha;
+    let alpha2 = four.alpha2;
+    let beta = four.beta;
+    let beta2 = four.beta2;
+    listed(0, alpha.0);
+    listed(1, alpha2.0);
+    listed(2, beta.0);
+    listed(3, beta2.0);
+}
+
+// From this place of a list on.
+fn coefficients(at: usize, k: usize, a: [Exponent; 8])
+    requires { ⌜ (at ≤ 24) × (k ≤ 8) ⌝ }
+{
+    let mut l: usize = 0;
+    while l < k {
+        let x = a[l];
+        listed(at + l, x.0);
+        l += 1;
+    }
+}
+
+pub fn polynomials(k: usize, all: Polynomials)
     requires { ⌜ k ≤ 8 ⌝ }
 {
-    printing::words(b"C = ");
-    printing::matrix(k, c);
+    let a = all.a;
+    let a2 = all.a2;
+    let b = all.b;
+    let b2 = all.b2;
+    coefficients(0, k, a);
+    coefficients(k, k, a2);
+    coefficients(2 * k, k, b);
+    coefficients(3 * k, k, b2);
+}
+
+// The first k rows and columns.
+pub fn matrix(k: usize, c: [[Element; 8]; 8]) {
+    let mut m: usize = 0;
+    while m < 64 {
+        let j = m / 8;
+        let l = m % 8;
+        let e = c[j][l];
+        if j < k && l < k {
+            listed(m, e.0);
+        }
+        m += 1;
+    }
 }
 
 // Of boxes 1 to n.
 pub fn shares(q: u16, k: usize, n: u16, f: [[Exponent; 8]; 8], f2: [[Exponent; 8]; 8])
     requires { ⌜ (0 < q) × (k ≤ 8) × (n ≤ 10) ⌝ }
 {
-    printing::words(b"shares ");
     let mut i: u16 = 1;
     while i <= n {
         if 1 < i {
-            printing::words(b", ");
+            words(b", ");
         }
-        printing::pair(points::share_of(q, k, f, f2, i));
+        pair(boxes::share_of(q, k, f, f2, i));
         i += 1;
+    }
+}
+
+// ---- checks
+
+fn verdict(passes: bool) {
+    if passes {
+        words(b": passes");
+    } else {
+        words(b": fails");
     }
 }
 
@@ -53,46 +128,17 @@ fn point_passes(group: Group, k: usize, c: [[Element; 8]; 8], i: u16, m: u16, fo
 pub fn share_checked(group: Group, k: usize, c: [[Element; 8]; 8], m: u16, share: Pair)
     requires { ⌜ (0 < group .p) × (0 < group .q) × (1 ≤ k) × (k ≤ 8) ⌝ }
 {
-    printing::pair(share);
-    printing::words(b" for box ");
-    printing::number(m);
-    printing::words(b": ");
-    printing::verdict(share_passes(group, k, c, m, share));
+    pair(share);
+    numbered(b" for box ", m as usize);
+    verdict(share_passes(group, k, c, m, share));
 }
 
 // At box i, from box m.
 pub fn point_checked(group: Group, k: usize, c: [[Element; 8]; 8], i: u16, m: u16, four: Four)
     requires { ⌜ (0 < group .p) × (0 < group .q) × (k ≤ 8) ⌝ }
 {
-    printing::point(four);
-    printing::words(b" at box ");
-    printing::number(i);
-    printing::words(b" from box ");
-    printing::number(m);
-    printing::words(b": ");
-    printing::verdict(point_passes(group, k, c, i, m, four));
-}
-
-// From the points of boxes 2 and 3, and from the same with α and β exchanged.
-pub fn share_from_points(q: u16, from_2: Four, from_3: Four)
-    requires { ⌜ 10 ≤ q ⌝ }
-{
-    let right = recovery::share_from(q, from_2, from_3);
-    let exchanged_2 = points::exchanged(from_2);
-    let exchanged_3 = points::exchanged(from_3);
-    let slip = recovery::share_from(q, exchanged_2, exchanged_3);
-    printing::words(b"a(0) = ");
-    printing::number(right.0);
-    printing::words(b", and ");
-    printing::number(slip.0);
-    printing::words(b" from the alphas");
-}
-
-pub fn opened(group: Group, pair: Pair)
-    requires { ⌜ 0 < group .p ⌝ }
-{
-    let first = pair.first;
-    let second = pair.second;
-    let e = arithmetic::commit(group, first, second);
-    printing::number(e.0);
+    point(four);
+    numbered(b" at box ", i as usize);
+    numbered(b" from box ", m as usize);
+    verdict(point_passes(group, k, c, i, m, four));
 }

@@ -1,66 +1,65 @@
 // Group 2, n 5, t 1, k 3.
+use crate::boxes;
 use crate::lines;
-use crate::points;
-use crate::printing;
-use crate::recovery;
+use printing::words;
 use rules::Element;
 use rules::Exponent;
 use rules::Group;
 use rules::Pair;
 ghost use Prim.Native.Nat.{_≤_, _<_};
 
-fn dealt(q: u16, f: [[Exponent; 8]; 8], f2: [[Exponent; 8]; 8], c: [[Element; 8]; 8])
-    requires { ⌜ 0 < q ⌝ }
-{
-    printing::words(b"group 2 ");
-    lines::commitment(3, c);
-    printing::words(b"\ngroup 2 ");
-    lines::shares(q, 3, 5, f, f2);
-    printing::words(b"\n");
-}
-
 // Box 4's share, and the same but for its first number.
-fn shares_checked(group: Group, of_4: Pair, c: [[Element; 8]; 8])
+fn shares_checked(group: Group, c: [[Element; 8]; 8], share: Pair)
     requires { ⌜ (0 < group .p) × (0 < group .q) ⌝ }
 {
-    let q = group.q;
-    let larger = points::one_larger(q, of_4);
-    printing::words(b"group 2 ");
-    lines::share_checked(group, 3, c, 4, of_4);
-    printing::words(b"; ");
+    let first = share.first;
+    let second = share.second;
+    let larger = Pair {
+        first: arithmetic::sum(group.q, first, Exponent(1)),
+        second,
+    };
+    words(b"\ngroup 2 ");
+    lines::share_checked(group, 3, c, 4, share);
+    words(b"; ");
     lines::share_checked(group, 3, c, 4, larger);
-    printing::words(b"\n");
 }
 
 fn recovered(q: u16, of_4: Pair, f: [[Exponent; 8]; 8], f2: [[Exponent; 8]; 8])
     requires { ⌜ 10 ≤ q ⌝ }
 {
-    let of_2 = points::share_of(q, 3, f, f2, 2);
-    let of_5 = points::share_of(q, 3, f, f2, 5);
-    printing::words(b"group 2 2, 4 and 5 recover ");
-    printing::pair(recovery::from_three(q, of_2, of_4, of_5));
-    printing::words(b"\n");
+    let of_2 = boxes::share_of(q, 3, f, f2, 2);
+    let of_5 = boxes::share_of(q, 3, f, f2, 5);
+    words(b"\ngroup 2 2, 4 and 5 recover ");
+    lines::pair(boxes::from_three(q, of_2, of_4, of_5));
 }
 
+// Box 3 gets the point of box 5.
 fn point_taken(group: Group, f: [[Exponent; 8]; 8], f2: [[Exponent; 8]; 8], c: [[Element; 8]; 8])
     requires { ⌜ (0 < group .p) × (0 < group .q) ⌝ }
 {
-    let q = group.q;
-    let from_5 = points::point_from(q, 3, f, f2, 5, 3);
-    printing::words(b"group 2 ");
+    let from_5 = boxes::point_from(group.q, 3, f, f2, 5, 3);
+    words(b"\ngroup 2 ");
     lines::point_checked(group, 3, c, 3, 5, from_5);
-    printing::words(b"\n");
+    words(b"\n");
 }
 
-// Tested as in group 1.
-pub fn sums(group: Group) {
-    if group.p == 0 {
-        return;
-    }
-    if group.q < 10 {
-        return;
-    }
-    let q = group.q;
+fn dealt(group: Group, f: [[Exponent; 8]; 8], f2: [[Exponent; 8]; 8])
+    requires { ⌜ (0 < group .p) × (10 ≤ group .q) ⌝ }
+{
+    let c = dealing::commit_all(group, 3, f, f2);
+    let of_4 = boxes::share_of(group.q, 3, f, f2, 4);
+    words(b"group 2 C = ");
+    lines::matrix(3, c);
+    words(b"\ngroup 2 shares ");
+    lines::shares(group.q, 3, 5, f, f2);
+    shares_checked(group, c, of_4);
+    recovered(group.q, of_4, f, f2);
+    point_taken(group, f, f2, c);
+}
+
+pub fn sums(group: Group)
+    requires { ⌜ (0 < group .p) × (10 ≤ group .q) ⌝ }
+{
     let coins = [
         311u16,
         42,
@@ -82,10 +81,5 @@ pub fn sums(group: Group) {
     ];
     let f = dealing::from_coins(3, 700, &coins, 0);
     let f2 = dealing::from_coins(3, 700, &coins, 9);
-    let c = dealing::commit_all(group, 3, f, f2);
-    let of_4 = points::share_of(q, 3, f, f2, 4);
-    dealt(q, f, f2, c);
-    shares_checked(group, of_4, c);
-    recovered(q, of_4, f, f2);
-    point_taken(group, f, f2, c);
+    dealt(group, f, f2);
 }

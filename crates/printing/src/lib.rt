@@ -1,5 +1,5 @@
-// What the console and the class programs print: words and numbers, the line of an answer, and messages in hexadecimal. What a box holds
-// is in `showing`.
+// What the console, the hand sums and the class programs print: words and numbers, the line of an answer, and messages in hexadecimal.
+// What a box holds is in `showing`.
 pub mod showing;
 
 use rules::Answer;

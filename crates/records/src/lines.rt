@@ -1,4 +1,7 @@
 // A record offered to the three calls, and the line of its three answer numbers.
+use crate::bases;
+use crate::changes;
+use crate::saying;
 use rules::Outcome;
 use rules::Record;
 
@@ -16,9 +19,28 @@ pub fn offered(x: Record, out: &mut [u8]) {
     printing::words(b"\n");
 }
 
-pub fn line(name: &[u8], x: Record) {
+// What stands behind the name: a base, and changes.
+fn line(text: &[u8]) {
+    if text.len() == 0 {
+        return;
+    }
     let mut out = [0u8; 2048];
-    printing::words(name);
-    printing::words(b":");
-    offered(x, &mut out);
+    let at = saying::behind(text, 0, b',');
+    let base = saying::change_in(&text[0..at]);
+    let x = bases::base(base.letter);
+    offered(changes::all(x, &text[at..]), &mut out);
+}
+
+// Lines `NAME: BASE, CHANGE, CHANGE ..`.
+pub fn lines(text: &[u8]) {
+    let mut at: usize = 0;
+    while at < text.len() {
+        let end = saying::behind(text, at, b'\n');
+        let behind = saying::behind(text, at, b':');
+        if behind < end {
+            printing::words(&text[at..behind]);
+            line(&text[behind..end]);
+        }
+        at = end;
+    }
 }

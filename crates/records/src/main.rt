@@ -3,32 +3,19 @@
 mod bases;
 mod changes;
 mod lines;
+mod saying;
 mod sound;
 mod unsound_ends;
 mod unsound_numbers;
 mod unsound_places;
 
 fn main() {
-    let b = bases::played();
-    let new = b.new;
-    let begun = b.begun;
-    let completed = b.completed;
-    let recovered = b.recovered;
-    let zero = b.zero;
-    sound::unchanged(b);
-    sound::early(new, begun);
-    sound::late(completed);
-    unsound_numbers::set_up(new);
-    unsound_numbers::exponents(begun, completed, recovered);
-    unsound_places::matrices_and_marks(begun, completed);
-    unsound_places::places(begun);
-    unsound_places::pairs(begun, completed);
-    unsound_ends::completion(completed);
-    unsound_ends::recovery(completed, recovered);
-    unsound_ends::unused(new, begun, completed);
-    unsound_ends::above_n(new, begun, recovered);
+    sound::all();
+    unsound_numbers::all();
+    unsound_places::all();
+    unsound_ends::all();
     let mut short = [0u8; 2047];
-    lines::line(b"all zero", zero);
+    lines::lines(b"all zero: zero\n");
     printing::words(b"all zero, 2047 bytes lent:");
-    lines::offered(zero, &mut short);
+    lines::offered(bases::zero(), &mut short);
 }

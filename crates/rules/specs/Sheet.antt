@@ -147,15 +147,16 @@ lastLine q k ps = pick (ltb (length ps) k) (noSecretLine (length ps) k) (secretL
 
 -- ---- what is printed
 
-unfoldable pub recovered : Group → ℕ → List (List Element) → ℕ → List Keep → List ℕ
-recovered G k C n shares = boxLines G k C n shares ++ lastLine (G .q) k (sharePoints (verifiedShares G k C n shares))
+-- the lines of a sheet that passes every test
+unfoldable pub sheetLines : Group → ℕ → List (List Element) → ℕ → List Keep → List ℕ
+sheetLines G k C n shares = boxLines G k C n shares ++ lastLine (G .q) k (sharePoints (verifiedShares G k C n shares))
 
 -- the sheet of a group and sizes that keep their rules
 unfoldable pub bodyPrinted : List ℕ → SetUp → List ℕ
 bodyPrinted b u =
     pick (not (restKeeps b (u .n) (u .k))) (text "bad sheet\n")
     (pick (not (matrixPasses (groupOf (u .group)) (u .k) (sheetMatrix b (matrixPlace b) (u .k)))) (text "refused 8\n")
-    (recovered (groupOf (u .group)) (u .k) (sheetMatrix b (matrixPlace b) (u .k)) (u .n) (sheetShares b (boxesPlace b (u .k)) (u .n))))
+    (sheetLines (groupOf (u .group)) (u .k) (sheetMatrix b (matrixPlace b) (u .k)) (u .n) (sheetShares b (boxesPlace b (u .k)) (u .n))))
 
 -- "Tests in order, each printing only its line: input over 4,096 bytes or a first line of another form, "bad sheet"; group,
 -- "refused 11"; n, t, k, "refused 12"; the rest of another form .., "bad sheet"; matrix, "refused 8"."

@@ -77,10 +77,10 @@ pub fn set_up(u: SetUp) -> Outcome
     ensures { λ o. ⌜ SetsUp u o ⌝ }
 {
     if !numbers::group_keeps(u) {
-        return steps::take::refuse(zero_record(), 11);
+        return steps::refuse(zero_record(), 11);
     }
     if !numbers::numbers_keep(u) {
-        return steps::take::refuse(zero_record(), 12);
+        return steps::refuse(zero_record(), 12);
     }
-    steps::take::told(new_record(u), Sent::Nothing, 0)
+    steps::told(new_record(u), Sent::Nothing, 0)
 }

@@ -1,9 +1,5 @@
 // The recovery sheet: what a sheet prints, at the front of a lent page of 512 bytes or more. It asks for nothing: a shorter
 // page stays as it is, and the answer is 0.
-mod lines;
-mod reading;
-mod verdicts;
-
 use rules::SetUp;
 ghost use mathlib.Core.Path.{_≡_};
 ghost use mathlib.Core.Bool.{true};
@@ -20,16 +16,16 @@ fn print_body(b: &[u8], u: SetUp, page: &mut [u8]) -> usize
 {
     let n = u.n as usize;
     let k = u.k as usize;
-    if !reading::rest_keeps(b, n, k) {
+    if !forms::rest_keeps(b, n, k) {
         return text::write::put_word(page, 0, b"bad sheet\n");
     }
     let group = numbers::group_of(u);
-    let c = reading::matrix(b, n, k);
+    let c = forms::matrix(b, n, k);
     if !checking::matrix_passes(group, k, c) {
         return text::write::put_word(page, 0, b"refused 8\n");
     }
-    let shares = reading::shares(b, n, k);
-    lines::print_recovered(page, group, k, c, n, shares)
+    let shares = forms::shares(b, n, k);
+    judging::lines::print_lines(page, group, k, c, n, shares)
 }
 
 pub fn print(b: &[u8], page: &mut [u8]) -> usize
@@ -38,10 +34,10 @@ pub fn print(b: &[u8], page: &mut [u8]) -> usize
     if page.len() < 512 {
         return 0;
     }
-    if !reading::first_line_keeps(b) {
+    if !forms::first_line_keeps(b) {
         return text::write::put_word(page, 0, b"bad sheet\n");
     }
-    let u = reading::set_up(b);
+    let u = forms::set_up(b);
     let grouped = numbers::group_keeps(u);
     let sized = numbers::sizes_keep(u.n, u.t, u.k);
     if !grouped {

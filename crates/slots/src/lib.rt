@@ -11,10 +11,11 @@ use rules::Row;
 use rules::SetUp;
 use rules::Slot;
 ghost use mathlib.Core.Path.{_≡_};
+ghost use mathlib.Core.Bool.{true};
 ghost use mathlib.Core.List.{map};
 ghost use Prim.Native.Nat.{_≤_, _<_};
 ghost use Rattle.rules.specs.Record.{rowAt, isHeld, isThere, isDone, sharesKept, sameMatrix, slotBelow, pointBelow, keptBelow, placesKeep, useKeeps, pairKeeps, entriesZero};
-ghost use Rattle.slots.specs.Slots.{countMarks, sameRow, differFrom, allDiffer, passesIn, anyHeld, slotKeeps, everySlot, rowZero};
+ghost use Rattle.slots.specs.Slots.{slotIn, countMarks, sameRow, differFrom, allDiffer, passesIn, anyHeld, slotKeeps, everySlot, rowZero};
 
 pub fn is_held(place: Place) -> bool
     ensures { λ r. ⌜ r ≡ isHeld (place .point) ⌝ }
@@ -165,13 +166,10 @@ pub fn same_matrix(k: usize, c: [[Element; 8]; 8], d: [[Element; 8]; 8]) -> bool
 
 // The matrix of slot s, in use, is none of those in use below it.
 fn differs_below(k: usize, slots: [Slot; 20], s: usize) -> bool
-    requires { ⌜ (k ≤ 8) × (s < 20) ⌝ }
+    requires { ⌜ (k ≤ 8) × (s < 20) × (slotIn slots s .used ≡ true) ⌝ }
     ensures { λ r. ⌜ r ≡ differFrom k slots s ⌝ }
 {
     let slot = slots[s];
-    if !slot.used {
-        return true;
-    }
     let rows = slot.rows;
     let c = matrix_of(rows);
     let mut below: usize = 0;
@@ -189,14 +187,18 @@ fn differs_below(k: usize, slots: [Slot; 20], s: usize) -> bool
     true
 }
 
+// Use is tested first, since handing the slots over copies them.
 pub fn matrices_differ(k: usize, slots: [Slot; 20]) -> bool
     requires { ⌜ k ≤ 8 ⌝ }
     ensures { λ r. ⌜ r ≡ allDiffer k slots ⌝ }
 {
     let mut s: usize = 0;
     while s < 20 {
-        if !differs_below(k, slots, s) {
-            return false;
+        let slot = slots[s];
+        if slot.used {
+            if !differs_below(k, slots, s) {
+                return false;
+            }
         }
         s += 1;
     }

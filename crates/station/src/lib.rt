@@ -26,38 +26,38 @@ pub fn deliver(x: Record, sender: u32, bytes: &[u8], out: &mut [u8]) -> Outcome
     ensures { λ o. ⌜ Delivers x sender (now (bytes .entry)) (now (out .entry)) o (now (out .exit)) ⌝ }
 {
     if out.len() < SetUp::LENT {
-        return steps::take::refuse(x, 15);
+        return steps::refuse(x, 15);
     }
     if !soundness::is_sound(x) {
-        return steps::take::refuse(x, 12);
+        return steps::refuse(x, 12);
     }
     let u = x.setup;
     if !numbers::is_box(u, sender) {
-        return steps::take::refuse(x, 1);
+        return steps::refuse(x, 1);
     }
-    if messages::read::is_malformed(bytes, u.k as usize) {
-        return steps::take::refuse(x, 2);
+    if reading::is_malformed(bytes, u.k as usize) {
+        return steps::refuse(x, 2);
     }
-    if messages::read::is_foreign(bytes, u) {
-        return steps::take::refuse(x, 3);
+    if reading::is_foreign(bytes, u) {
+        return steps::refuse(x, 3);
     }
     let tag = bytes[0];
     if tag == 1 && sender != u.d {
-        return steps::take::refuse(x, 4);
+        return steps::refuse(x, 4);
     }
     let progress = x.progress;
     let completion = progress.completion;
     let recovering = slots::is_done(completion) && progress.commanded;
     if tag == 4 && !recovering {
-        return steps::take::refuse(x, 5);
+        return steps::refuse(x, 5);
     }
     let recovered = x.recovered;
     if tag == 4 && slots::is_there(recovered) {
-        return steps::take::refuse(x, 6);
+        return steps::refuse(x, 6);
     }
     let m = (sender - 1) as usize;
     if is_heard(x, tag, m) {
-        return steps::take::refuse(x, 7);
+        return steps::refuse(x, 7);
     }
     match tag {
         1 => delivery::deliver_send(x, m, bytes, out),

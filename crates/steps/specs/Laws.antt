@@ -33,7 +33,7 @@ use Rattle.rules.specs.Answers.{accepted}
 use Rattle.rules.specs.Laws.Numbers.{GroupRanges, bounds, group-sizes}
 use Rattle.rules.specs.Laws.Matrices.{square-some}
 use Rattle.rules.specs.Laws.Sound.{sound-facts}
-use Rattle.messages.specs.Written.{toBox}
+use Rattle.writing.specs.Written.{toBox}
 use Rattle.steps.specs.Takes.{Takes, sentWith, completedTold}
 
 -- ---- the numbers of a sound record

@@ -67,6 +67,16 @@ length-message u (echo C f) = omega (arith, length-header u (echo C f), length-b
 length-message u (ready C f) = omega (arith, length-header u (ready C f), length-body (u .k) C (fourBytes f))
 length-message u (recovery s) = length-header u (recovery s)
 
+-- No message is shorter than 7 bytes.
+pub wholeLength-least : (tag k : ℕ) → 7 ≤ wholeLength tag k
+unfolding wholeLength
+wholeLength-least tag k = go (eqb tag 1) (eqb tag 4)
+  where
+    go : (a b : Bool) → 7 ≤ pick a (7 + 2 * (k * k) + 8 * k) (pick b 10 (15 + 2 * (k * k)))
+    go true b = omega arith
+    go false true = omega arith
+    go false false = omega arith
+
 -- For k = 2 the whole lengths are 31, 23, 23, 10.
 pub lengths-at-two : (wholeLength 1 2 ≡ 31) × (wholeLength 2 2 ≡ 23) × (wholeLength 3 2 ≡ 23) × (wholeLength 4 2 ≡ 10)
 unfolding wholeLength

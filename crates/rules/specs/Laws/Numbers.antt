@@ -3,14 +3,14 @@
 -- In order: the sizes n, t, k; boxes, and a whole set-up; the echo quorum; the rows of the table of groups.
 -- Assumes nothing.
 use mathlib.Core.Path.{_≡_, refl}
-use mathlib.Core.Bool.{true}
+use mathlib.Core.Bool.{Bool, true}
 use mathlib.Core.Logic.{⊎-elim}
 use Prim.Native.Nat.{ℕ, _+_, _*_, _-_, _%_, _^_, _≤_, _<_}
 use native.Mathlib.Omega.{arith}
 use lib.Dec.{eqb, leb, ltb}
 use lib.ListN.{getD}
 use borrow.Author.Tests.{leb-true, ltb-true, eqb-true, le-leb}
-use Rattle.folds.specs.Tests.{and-left, and-right, or-cases, and-intro}
+use Rattle.folds.specs.Tests.{_and_, and-left, and-right, or-cases, and-intro}
 use Rattle.folds.specs.Below.{allBelow, allBelow-at, firstFrom}
 use Rattle.algebra.specs.Residues.{primeb, Prime, prime}
 use Rattle.rules.specs.declared.Element.{Element}
@@ -141,37 +141,50 @@ rows-keep = refl
 pub table-rule : (i : ℕ) → i < 2 → GroupRule (getD groups i noGroup)
 table-rule i l = row-rule (getD groups i noGroup) (allBelow-at (λ i. rowKeeps (getD groups i noGroup)) 2 i rows-keep l)
 
--- The group of a set-up whose group number passes keeps the rule.
-pub group-rule : (u : SetUp) → groupKeeps u ≡ true → GroupRule (groupOf (u .group))
-unfolding groupKeeps groupOf
-group-rule u h =
-    table-rule (u .group - 1)
-    (⊎-elim
+-- A group number that passes is that of a row.
+in-table : (u : SetUp) → groupKeeps u ≡ true → u .group - 1 < 2
+unfolding groupKeeps
+in-table u h =
+    ⊎-elim
     (λ e. let q = eqb-true (u .group) 1 e in omega arith)
     (λ e. let q = eqb-true (u .group) 2 e in omega arith)
-    (or-cases (eqb (u .group) 1) (eqb (u .group) 2) h))
+    (or-cases (eqb (u .group) 1) (eqb (u .group) 2) h)
+
+-- The group of a set-up whose group number passes keeps the rule.
+pub group-rule : (u : SetUp) → groupKeeps u ≡ true → GroupRule (groupOf (u .group))
+unfolding groupOf
+group-rule u h = table-rule (u .group - 1) (in-table u h)
 
 -- How large its numbers are: q is above every box number, and both are two-byte numbers.
 pub record GroupRanges (G : Group) : Type 0 where
   pub modulus : 0 < G .p
   pub modulus-small : G .p < 65536
   pub some : 0 < G .q
-  pub order : 10 ≤ G .q
   pub above : 10 < G .q
   pub small : G .q < 65536
 
+inRange : Group → Bool
+inRange G = ltb 10 (G .q) and ltb (G .q) 65536 and ltb 0 (G .p) and ltb (G .p) 65536
+
+rows-in-range : allBelow 2 (λ i. inRange (getD groups i noGroup)) ≡ true
+unfolding allBelow firstFrom groups inRange
+rows-in-range = refl
+
+in-range : (G : Group) → inRange G ≡ true → GroupRanges G
+unfolding inRange
+in-range G h =
+    let h1 = and-right (ltb 10 (G .q)) _ h in
+    let h2 = and-right (ltb (G .q) 65536) _ h1 in
+    let above = ltb-true 10 (G .q) (and-left (ltb 10 (G .q)) _ h) in
+    record {
+      modulus = ltb-true 0 (G .p) (and-left (ltb 0 (G .p)) _ h2);
+      modulus-small = ltb-true (G .p) 65536 (and-right (ltb 0 (G .p)) _ h2);
+      some = omega arith;
+      above = above;
+      small = ltb-true (G .q) 65536 (and-left (ltb (G .q) 65536) _ h1);
+    }
+
 pub group-sizes : (u : SetUp) → groupKeeps u ≡ true → GroupRanges (groupOf (u .group))
-unfolding groupKeeps groupOf groups
+unfolding groupOf
 group-sizes u h =
-    ⊎-elim
-    (λ e. rw (eqb-true (u .group) 1 e)
-    (record { modulus = omega arith; modulus-small = omega arith; some = omega arith; order = omega arith; above = omega arith; small = omega arith }))
-    (λ e. rw (eqb-true (u .group) 2 e)
-    (record { modulus = omega arith; modulus-small = omega arith; some = omega arith; order = omega arith; above = omega arith; small = omega arith }))
-    (or-cases (eqb (u .group) 1) (eqb (u .group) 2) h)
-
-pub order-above : (u : SetUp) → groupKeeps u ≡ true → 10 < groupOf (u .group) .q
-order-above u h = group-sizes u h .above
-
-pub modulus-small : (u : SetUp) → groupKeeps u ≡ true → groupOf (u .group) .p < 65536
-modulus-small u h = group-sizes u h .modulus-small
+    in-range (groupOf (u .group)) (allBelow-at (λ i. inRange (getD groups i noGroup)) 2 (u .group - 1) rows-in-range (in-table u h))

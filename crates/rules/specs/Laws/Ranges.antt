@@ -28,7 +28,7 @@ use Rattle.rules.specs.Matrices.{row, matrix, entry, coefficient₂}
 use Rattle.rules.specs.Messages.{matrixIn}
 use Rattle.rules.specs.Dealing.{committed, commitment, alongY, alongX, polynomialsOf, matrixPasses, fourBelow, pairBelow}
 use Rattle.rules.specs.Record.{noRow, rowAt, matrixOf, entriesZero}
-use Rattle.rules.specs.Laws.Numbers.{group-rule, modulus-small}
+use Rattle.rules.specs.Laws.Numbers.{group-rule, group-sizes}
 use Rattle.rules.specs.Laws.Matrices.{row-at, row-length, row-zero, matrix-height, matrix-filled, matrix-empty, entry-at}
 use Rattle.rules.specs.Laws.Checks.{entry-below, four-lows, pair-lows}
 use Rattle.rules.specs.Laws.Shape.{ShapedSlot}
@@ -42,7 +42,7 @@ module _ (u : SetUp) (keeps : groupKeeps u ≡ true) (high : u .k ≤ 8) where
   -- ---- numbers below q
 
   order-small : {x : ℕ} → x < group .q → x < 65536
-  order-small l = let p = modulus-small u keeps in let e = group-rule u keeps .twice in omega arith
+  order-small l = let p = group-sizes u keeps .modulus-small in let e = group-rule u keeps .twice in omega arith
 
   remainder-small : (x : ℕ) → x % group .q < 65536
   remainder-small x = let big = group-rule u keeps .q-prime .big in order-small (mod-lt x (omega arith))
@@ -63,7 +63,7 @@ module _ (u : SetUp) (keeps : groupKeeps u ≡ true) (high : u .k ≤ 8) where
 
   -- entries that pass refusal 8 are below p
   entry-small : (C : List (List Element)) → matrixPasses group (u .k) C ≡ true → (j l : ℕ) → j < u .k → l < u .k → entry C j l < 65536
-  entry-small C passes j l hj hl = let a = entry-below group (u .k) C passes j l hj hl in let b = modulus-small u keeps in omega arith
+  entry-small C passes j l hj hl = let a = entry-below group (u .k) C passes j l hj hl in let b = group-sizes u keeps .modulus-small in omega arith
 
   pub read-room : (bytes : List ℕ) → matrixPasses group (u .k) (matrixIn (u .k) bytes) ≡ true → MatrixFits (u .k) (matrixIn (u .k) bytes)
   unfolding matrixIn
@@ -130,7 +130,7 @@ module _ (u : SetUp) (keeps : groupKeeps u ≡ true) (high : u .k ≤ 8) where
     unfolding commitment committed
     dealt-room =
         matrix-fits (u .k) _ high (λ j l hj hl.
-        let small = modulus-small u keeps in
+        let small = group-sizes u keeps .modulus-small in
         let big = group-rule u keeps .p-prime .big in
         let c = group .g .0 ^ coefficient₂ f j l * group .h .0 ^ coefficient₂ f′ j l in
         let low : c % group .p < group .p = mod-lt c (omega arith) in

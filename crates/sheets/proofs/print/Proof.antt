@@ -13,7 +13,7 @@ use Rattle.rules.specs.Numbers.{groupKeeps, sizesKeep}
 use Rattle.rules.specs.Messages.{written}
 use Rattle.rules.specs.Text.{text}
 use Rattle.rules.specs.Sheet.{sheetSetUp, firstLineKeeps, bodyPrinted, printed, page, Prints}
-use Rattle.sheets.specs.Laws.{word-written}
+use Rattle.judging.specs.Laws.{word-written}
 use Rattle.sheets.proofs.print.Statement.{statement}
 use Rattle.sheets.proofs.print.Tie as tie
 

@@ -9,7 +9,7 @@ use Rattle.rules.specs.Dealing.{matrixPasses}
 use Rattle.rules.specs.Text.{text}
 use Rattle.rules.specs.Sheet.{matrixPlace, sheetMatrix, bodyPrinted}
 use Rattle.rules.specs.Laws.Numbers.{Sizes, sizes, group-sizes}
-use Rattle.sheets.specs.Laws.{word-written}
+use Rattle.judging.specs.Laws.{word-written}
 use Rattle.sheets.proofs.print_body.Statement.{statement}
 use Rattle.sheets.proofs.print_body.Tie as tie
 
@@ -90,14 +90,14 @@ shares-requires c κs =
     let start = form .before .before .before .before .before .before in
     (start .pre .0, passed (form .before .rest-keeps .ensures) (form .if1 .left), start-sizes start .boxes, start-sizes start .high)
 
-print-recovered-requires : tie.Need-print-recovered-requires
-print-recovered-requires c κs =
+print-lines-requires : tie.Need-print-lines-requires
+print-lines-requires c κs =
     let matrix = c .before .before in
     let start = matrix .before .before .before .before .before .before .before .before .before .before in
     let s = start-sizes start in
     let G = group-sizes (start .args .u) (start .pre .1) in
     let e = matrix .before .before .before .group-of .ensures in
-    ((rw e (G .modulus), rw e (G .order), omega arith, s .high, passed (matrix .before .matrix-passes .ensures) (matrix .if2 .left)), s .boxes, start .pre .3)
+    ((rw e (G .modulus), rw e (omega (arith, G .above)), omega arith, s .high, passed (matrix .before .matrix-passes .ensures) (matrix .if2 .left)), s .boxes, start .pre .3)
 
 same-length-3 : tie.Need-same-length-3
 same-length-3 c = search needs
@@ -108,7 +108,7 @@ returns-3 c =
     let matrix = c .before .before .before .before .before in
     let form = matrix .before .before .before .before in
     rw (passed (form .before .rest-keeps .ensures) (form .if1 .left), passed (tested (matrix .before)) (matrix .if2 .left))
-    (rw (c .before .before .before .before .shares .ensures, matrix .before .before .matrix .ensures, matrix .before .before .before .group-of .ensures) at (c .before .before .print-recovered .ensures))
+    (rw (c .before .before .before .before .shares .ensures, matrix .before .before .matrix .ensures, matrix .before .before .before .group-of .ensures) at (c .before .before .print-lines .ensures))
 
 pub print-body-spec : {M : Type 1} → statement M
 print-body-spec =
@@ -129,6 +129,6 @@ print-body-spec =
     same-length-2
     returns-2
     shares-requires
-    print-recovered-requires
+    print-lines-requires
     same-length-3
     returns-3)

@@ -7,9 +7,8 @@ use mathlib.Core.Logic.{⊎-elim}
 use Prim.Native.Nat.{ℕ, _-_, _≤_}
 use native.Mathlib.Omega.{arith}
 use borrow.Author.Needs.{needs}
-use borrow.Author.Tests.{not-true, not-false}
 use Rattle.folds.specs.Tests.{_and_}
-use Rattle.folds.specs.Below.{allBelow, allBelow-zero, allBelow-more, allBelow-not, allBelow-all}
+use Rattle.folds.specs.Below.{allBelow, allBelow-zero, allBelow-more, allBelow-not}
 use Rattle.rules.specs.declared.Slot.{Slot}
 use Rattle.rules.specs.Record.{matrixOf, sameMatrix}
 use Rattle.slots.specs.Slots.{slotIn, differFrom}
@@ -32,13 +31,6 @@ mul-slot c = search needs
 array-copy-out-slot : tie.Need-array-copy-out-slot Inv-loop μ-loop
 array-copy-out-slot c = search needs
 
-returns : tie.Need-returns Inv-loop μ-loop
-unfolding differFrom
-returns c =
-    let a = c .before .before .before .args in
-    let unused : slotIn (a .t2) (a .s) .used ≡ false = not-true _ (c .if1 .taken) in
-    sym (allBelow-all (differs (a .k) (a .t2) (a .s)) (a .s) (λ i l. rw unused))
-
 matrix-of-requires : tie.Need-matrix-of-requires Inv-loop μ-loop
 matrix-of-requires c κs = search needs
 
@@ -57,21 +49,21 @@ matrix-of-requires-2 c κs = search needs
 same-matrix-requires : tie.Need-same-matrix-requires Inv-loop μ-loop
 same-matrix-requires c κs = search needs
 
-returns-2 : tie.Need-returns-2 Inv-loop μ-loop
+returns : tie.Need-returns Inv-loop μ-loop
 unfolding differFrom matrixOf
-returns-2 c =
+returns c =
     let turn = c .before .before .before .before .before .before in
     let read = turn .before .before in
-    let a = read .before .before .before .before .before .args in
+    let start = read .before .before .before in
+    let a = start .args in
     let below = turn .before .loop .below in
-    let used : slotIn (a .t2) (a .s) .used ≡ true = not-false _ (read .before .before .if1 .left) in
-    let other : slotIn (a .t2) below .used ≡ true = c .before .before .before .before .if2 .taken in
+    let other : slotIn (a .t2) below .used ≡ true = c .before .before .before .before .if1 .taken in
     let same =
     ap₂ (sameMatrix (a .k)) (sym (read .matrix-of .ensures)) (sym (c .before .before .matrix-of2 .ensures))
     ∙ sym (c .before .same-matrix .ensures)
-    ∙ c .if3 .taken in
+    ∙ c .if2 .taken in
     sym
-    (allBelow-not (differs (a .k) (a .t2) (a .s)) (a .s) below (turn .loop-test .taken) (rw (used, other, same)))
+    (allBelow-not (differs (a .k) (a .t2) (a .s)) (a .s) below (turn .loop-test .taken) (rw (start .pre .2, other, same)))
 
 add-below : tie.Need-add-below Inv-loop μ-loop
 add-below c = search needs
@@ -84,9 +76,9 @@ unfolding matrixOf
 loop-again c =
     let head = c .before .before .before in
     let read = head .before in
-    let a = read .before .before .before .before .before .args in
-    let below = head .loop .below in
-    let used : slotIn (a .t2) (a .s) .used ≡ true = not-false _ (read .before .before .if1 .left) in (
+    let start = read .before .before .before in
+    let a = start .args in
+    let below = head .loop .below in (
       omega arith,
       allBelow-more (differs (a .k) (a .t2) (a .s)) below (head .loop .inv .1)
           (⊎-elim
@@ -96,17 +88,17 @@ loop-again c =
           ap₂ (sameMatrix (a .k)) (sym (read .matrix-of .ensures)) (sym (w .2 .ensures))
           ∙ sym (w .3 .ensures)
           ∙ w .4 .left in
-          rw (used, other, same))
+          rw (start .pre .2, other, same))
           (λ w.
           let other : slotIn (a .t2) below .used ≡ false = w .left in
-          rw (used, other))
-          (c .if2 .came)),
+          rw (start .pre .2, other))
+          (c .if1 .came)),
     )
 
-returns-3 : tie.Need-returns-3 Inv-loop μ-loop
+returns-2 : tie.Need-returns-2 Inv-loop μ-loop
 unfolding differFrom
-returns-3 c =
-    let all : c .before .loop .below ≡ c .before .before .before .before .before .before .before .args .s = omega arith in
+returns-2 c =
+    let all : c .before .loop .below ≡ c .before .before .before .before .before .args .s = omega arith in
     sym (rw all at (c .before .loop .inv .1))
 
 pub differs-below-spec : {M : Type 1} → statement M
@@ -117,15 +109,14 @@ differs-below-spec =
     μ-loop
     mul-slot
     array-copy-out-slot
-    returns
     matrix-of-requires
     loop-holds
     mul-other
     array-copy-out-other
     matrix-of-requires-2
     same-matrix-requires
-    returns-2
+    returns
     add-below
     loop-less
     loop-again
-    returns-3)
+    returns-2)

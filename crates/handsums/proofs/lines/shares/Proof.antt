@@ -10,20 +10,14 @@ Inv-loop q k n f f2 i₀ t8 i = i ≤ n + 1
 abbrev μ-loop : tie.MeasureT-loop
 μ-loop q k n f f2 i₀ t8 i = n + 1 - i
 
+loop-holds : tie.Need-loop-holds Inv-loop μ-loop
+loop-holds c = search needs
+
 slice-aggregate-words : tie.Need-slice-aggregate-words Inv-loop μ-loop
 slice-aggregate-words c = search needs
 
 words-requires : tie.Need-words-requires Inv-loop μ-loop
 words-requires c κs = search needs
-
-loop-holds : tie.Need-loop-holds Inv-loop μ-loop
-loop-holds c = search needs
-
-slice-aggregate-words-2 : tie.Need-slice-aggregate-words-2 Inv-loop μ-loop
-slice-aggregate-words-2 c = search needs
-
-words-requires-2 : tie.Need-words-requires-2 Inv-loop μ-loop
-words-requires-2 c κs = search needs
 
 share-of-requires : tie.Need-share-of-requires Inv-loop μ-loop
 share-of-requires c κs = search needs
@@ -49,11 +43,9 @@ shares-spec =
     (tie.spec
     Inv-loop
     μ-loop
+    loop-holds
     slice-aggregate-words
     words-requires
-    loop-holds
-    slice-aggregate-words-2
-    words-requires-2
     share-of-requires
     pair-requires
     add-i

@@ -1,3 +1,0 @@
-// Messages as bytes: written at the front of a lent tail, and read.
-pub mod read;
-pub mod write;

@@ -1,0 +1,2 @@
+-- What only a reader names.
+pub mod Reading
