@@ -1,2 +1,2 @@
--- What the proofs of both functions use.
+-- What the proof of the lent call uses.
 mod Values
