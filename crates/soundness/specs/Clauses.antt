@@ -3,9 +3,9 @@
 use mathlib.Core.Bool.{Bool, not}
 use mathlib.Core.List.{List, map}
 use Prim.Native.Nat.{ℕ}
-use lib.Dec.{leb, ltb}
+use lib.Dec.{eqb, leb, ltb}
 use lib.ListN.{getD}
-use Rattle.folds.specs.Tests.{_and_, _or_, same, implies}
+use Rattle.folds.specs.Tests.{_and_, _or_, same, implies, pick}
 use Rattle.folds.specs.Below.{allBelow, anyBelow, countBelow}
 use Rattle.rules.specs.declared.Keep.{Keep}
 use Rattle.rules.specs.declared.Marks.{Marks}
@@ -20,12 +20,12 @@ sharesUnder q shares = allBelow 10 (λ m. keptBelow q (shareAt shares m))
 unfoldable pub pairsBelow : ℕ → Record → Bool
 pairsBelow q x = sharesUnder q (x .shares) and keptBelow q (x .recovered .kept)
 
--- one kind of mark, for each slot
-unfoldable pub echoedIn : List Slot → List Marks
-echoedIn slots = map (λ slot. slot .echoed) slots
+-- one kind of mark, for echo by tag 2 and else for ready: of a slot, and of each
+abbrev pub marksFor : ℕ → Slot → Marks
+marksFor tag slot = pick (eqb tag 2) (slot .echoed) (slot .readied)
 
-unfoldable pub readiedIn : List Slot → List Marks
-readiedIn slots = map (λ slot. slot .readied) slots
+unfoldable pub marksIn : ℕ → List Slot → List Marks
+marksIn tag slots = map (marksFor tag) slots
 
 abbrev pub markIn : List Marks → ℕ → ℕ → Bool
 markIn marks m s = marked (getD marks s noMarks) m

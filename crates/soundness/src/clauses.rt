@@ -7,7 +7,7 @@ use rules::Slot;
 ghost use mathlib.Core.Path.{_≡_};
 ghost use Prim.Native.Nat.{_+_, _≤_, _<_};
 ghost use Rattle.rules.specs.Record.{marksKeep, completionKeeps, recoveryKeeps, dealtKeeps, senderZero};
-ghost use Rattle.soundness.specs.Clauses.{echoedIn, readiedIn, kindKeeps, sharesUnder, pairsBelow, markedUnder, sharesCommanded, sharesHeard, slotsClear, heardClear, sendersClear};
+ghost use Rattle.soundness.specs.Clauses.{marksFor, marksIn, kindKeeps, sharesUnder, pairsBelow, markedUnder, sharesCommanded, sharesHeard, slotsClear, heardClear, sendersClear};
 
 // ---- stored exponents are below q
 
@@ -39,30 +39,25 @@ pub fn pairs_below(q: u16, x: Record) -> bool
 
 // ---- a sender is marked for echo or ready under at most one matrix each, and then is heard for that tag
 
-fn echoed_in(slots: [Slot; 20]) -> [Marks; 20]
-    ensures { λ r. ⌜ r ≡ echoedIn slots ⌝ }
+// For echo by tag 2, else for ready.
+fn marks_of(slot: Slot, tag: u8) -> Marks
+    ensures { λ r. ⌜ r ≡ marksFor tag slot ⌝ }
 {
-    let none = Marks { at: [false; 10] };
-    let mut made = [none; 20];
-    let mut s: usize = 0;
-    while s < 20 {
-        let slot = slots[s];
-        let marks = slot.echoed;
-        made[s] = marks;
-        s += 1;
+    if tag == 2 {
+        return slot.echoed;
     }
-    made
+    slot.readied
 }
 
-fn readied_in(slots: [Slot; 20]) -> [Marks; 20]
-    ensures { λ r. ⌜ r ≡ readiedIn slots ⌝ }
+fn marks_in(slots: [Slot; 20], tag: u8) -> [Marks; 20]
+    ensures { λ r. ⌜ r ≡ marksIn tag slots ⌝ }
 {
     let none = Marks { at: [false; 10] };
     let mut made = [none; 20];
     let mut s: usize = 0;
     while s < 20 {
         let slot = slots[s];
-        let marks = slot.readied;
+        let marks = marks_of(slot, tag);
         made[s] = marks;
         s += 1;
     }
@@ -109,12 +104,12 @@ pub fn marks_keep(x: Record) -> bool
     ensures { λ r. ⌜ r ≡ marksKeep x ⌝ }
 {
     let slots = x.slots;
-    let echoed = echoed_in(slots);
+    let echoed = marks_in(slots, 2);
     let heard_echo = x.heard[1];
     if !kind_keeps(echoed, heard_echo) {
         return false;
     }
-    let readied = readied_in(slots);
+    let readied = marks_in(slots, 3);
     let heard_ready = x.heard[2];
     kind_keeps(readied, heard_ready)
 }

@@ -14,7 +14,7 @@ use Rattle.rules.specs.declared.Marks.{Marks}
 use Rattle.rules.specs.declared.Slot.{Slot}
 use Rattle.rules.specs.Record.{noMarks, noSlot, marked, marksKeep}
 use Rattle.slots.specs.Slots.{slotIn}
-use Rattle.soundness.specs.Clauses.{echoedIn, readiedIn, markIn, markedUnder, kindKeeps}
+use Rattle.soundness.specs.Clauses.{marksIn, markIn, markedUnder, kindKeeps}
 use Rattle.soundness.proofs.clauses.marks_keep.Statement.{statement}
 use Rattle.soundness.proofs.clauses.marks_keep.Tie as tie
 
@@ -41,17 +41,17 @@ module _ (f : Slot → Marks) (none : f noSlot ≡ noMarks) (slots : List Slot) 
 echo : (c : tie.After-kind-keeps)
     → let x = c .before .before .before .before .args .t1 in
     clause (λ slot. slot .echoed) (x .slots) (getD (x .heard) 1 noMarks) ≡ c .kind-keeps .result
-unfolding echoedIn
+unfolding marksIn
 echo c =
     let x = c .before .before .before .before .args .t1 in
     let heard = getD (x .heard) 1 noMarks in
     sym
     (c .kind-keeps .ensures
-    ∙ ap (λ (marks : List Marks). kindKeeps marks heard) (c .before .before .echoed-in .ensures)
+    ∙ ap (λ (marks : List Marks). kindKeeps marks heard) (c .before .before .marks-in .ensures)
     ∙ kind (λ slot. slot .echoed) refl (x .slots) heard)
 
-echoed-in-requires : tie.Need-echoed-in-requires
-echoed-in-requires c κs = search needs
+marks-in-requires : tie.Need-marks-in-requires
+marks-in-requires c κs = search needs
 
 element-copy-out-heard-echo : tie.Need-element-copy-out-heard-echo
 element-copy-out-heard-echo c = search needs
@@ -63,8 +63,8 @@ returns : tie.Need-returns
 unfolding marksKeep
 returns c = rw (echo (c .before) ∙ not-true _ (c .if1 .taken))
 
-readied-in-requires : tie.Need-readied-in-requires
-readied-in-requires c κs = search needs
+marks-in-requires-2 : tie.Need-marks-in-requires-2
+marks-in-requires-2 c κs = search needs
 
 element-copy-out-heard-ready : tie.Need-element-copy-out-heard-ready
 element-copy-out-heard-ready c = search needs
@@ -73,24 +73,24 @@ kind-keeps-requires-2 : tie.Need-kind-keeps-requires-2
 kind-keeps-requires-2 c κs = search needs
 
 returns-2 : tie.Need-returns-2
-unfolding marksKeep readiedIn
+unfolding marksKeep marksIn
 returns-2 c =
     let x = c .before .before .before .before .before .before .before .before .args .t1 in
     let heard = getD (x .heard) 2 noMarks in
     rw (echo (c .before .before .before .before) ∙ not-false _ (c .before .before .before .if1 .left))
     (c .kind-keeps2 .ensures
-    ∙ ap (λ (marks : List Marks). kindKeeps marks heard) (c .before .before .readied-in .ensures)
+    ∙ ap (λ (marks : List Marks). kindKeeps marks heard) (c .before .before .marks-in2 .ensures)
     ∙ kind (λ slot. slot .readied) refl (x .slots) heard)
 
 pub marks-keep-spec : {M : Type 1} → statement M
 marks-keep-spec =
     tie.close
     (tie.spec
-    echoed-in-requires
+    marks-in-requires
     element-copy-out-heard-echo
     kind-keeps-requires
     returns
-    readied-in-requires
+    marks-in-requires-2
     element-copy-out-heard-ready
     kind-keeps-requires-2
     returns-2)
