@@ -1,2 +1,2 @@
--- The answer to a group number.
-pub mod Rows
+-- Loops, as the proofs of this crate and of those above it say them.
+pub mod Loops

@@ -8,10 +8,17 @@ ghost use Prim.Native.Nat.{_+_, _-_, _*_, _%_, _^_, _<_, _≤_};
 ghost use Rattle.algebra.specs.Residues.{inverse};
 ghost use Rattle.rules.specs.Numbers.{exponent, element};
 ghost use Rattle.rules.specs.Dealing.{committed, inGroup};
-ghost use Rattle.arithmetic.specs.Rows.{rowFor};
+
+fn product_modulo(m: u16, x: u16, y: u16) -> u16
+    requires { ⌜ 0 < m ⌝ }
+    ensures { λ r. ⌜ r ≡ (x * y) % m ⌝ }
+{
+    (x as u32 * y as u32 % m as u32) as u16
+}
 
 // ---- exponents
 
+// Exponents are added, subtracted and multiplied modulo q.
 pub fn sum(q: u16, x: Exponent, y: Exponent) -> Exponent
     requires { ⌜ 0 < q ⌝ }
     ensures { λ r. ⌜ r ≡ exponent ((x .0 + y .0) % q) ⌝ }
@@ -19,18 +26,19 @@ pub fn sum(q: u16, x: Exponent, y: Exponent) -> Exponent
     Exponent(((x.0 as u32 + y.0 as u32) % q as u32) as u16)
 }
 
+// x - y, for a y that is at most q.
 pub fn difference(q: u16, x: Exponent, y: Exponent) -> Exponent
     requires { ⌜ (0 < q) × (y .0 ≤ q) ⌝ }
     ensures { λ r. ⌜ r ≡ exponent ((x .0 + (q - y .0)) % q) ⌝ }
 {
-    Exponent(((x.0 as u32 + (q - y.0) as u32) % q as u32) as u16)
+    sum(q, x, Exponent(q - y.0))
 }
 
 pub fn product(q: u16, x: Exponent, y: Exponent) -> Exponent
     requires { ⌜ 0 < q ⌝ }
     ensures { λ r. ⌜ r ≡ exponent ((x .0 * y .0) % q) ⌝ }
 {
-    Exponent((x.0 as u32 * y.0 as u32 % q as u32) as u16)
+    Exponent(product_modulo(q, x.0, y.0))
 }
 
 // The inverse modulo a prime q: from q = d x + r, x (q - d) is r modulo q, and r is less than x.
@@ -48,14 +56,15 @@ pub fn inverted(q: u16, x: Exponent) -> Exponent
 
 // ---- elements
 
+// Elements are multiplied modulo p.
 pub fn times(p: u16, x: Element, y: Element) -> Element
     requires { ⌜ 0 < p ⌝ }
     ensures { λ r. ⌜ r ≡ element ((x .0 * y .0) % p) ⌝ }
 {
-    Element((x.0 as u32 * y.0 as u32 % p as u32) as u16)
+    Element(product_modulo(p, x.0, y.0))
 }
 
-// By squaring.
+// e^x modulo p, by squaring.
 pub fn power(p: u16, e: Element, x: Exponent) -> Element
     requires { ⌜ 0 < p ⌝ }
     ensures { λ r. ⌜ r ≡ element (e .0 ^ x .0 % p) ⌝ }
@@ -99,24 +108,4 @@ pub fn is_element(group: Group, e: Element) -> bool
     let q = group.q;
     let one = power(p, e, Exponent(q));
     one.0 == 1
-}
-
-// ---- groups
-
-// A row of the table, or refusal 11.
-pub enum RowOr {
-    Row(Group),
-    Refused,
-}
-
-pub fn row_for(number: u32) -> RowOr
-    ensures { λ r. ⌜ r ≡ rowFor number ⌝ }
-{
-    if number == 1 {
-        return RowOr::Row(Group::at(0));
-    }
-    if number == 2 {
-        return RowOr::Row(Group::at(1));
-    }
-    RowOr::Refused
 }

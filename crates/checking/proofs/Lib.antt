@@ -1,2 +1,3 @@
 -- What the proofs of several functions use.
-mod Opening
+mod Lines
+pub mod Weights

@@ -1,2 +1,2 @@
--- Rows, columns and products that only this crate's contracts name.
-pub mod Opened
+-- What only this crate's contracts name.
+pub mod Equations

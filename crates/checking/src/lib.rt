@@ -7,17 +7,20 @@ use rules::Group;
 use rules::Pair;
 use rules::Polynomials;
 ghost use mathlib.Core.Path.{_≡_};
-ghost use mathlib.Core.Bool.{true};
-ghost use Prim.Native.Nat.{_≤_, _<_};
+ghost use Prim.Native.Nat.{_+_, _%_, _≤_, _<_};
+ghost use Rattle.folds.specs.Below.{allBelow};
 ghost use Rattle.rules.specs.Numbers.{element};
-ghost use Rattle.rules.specs.Dealing.{matrixPasses, coefficientsBelow, polynomialsBelow, fourBelow, pairBelow, polynomialCheck, openedAt, pointCheck, shareCheck};
-ghost use Rattle.checking.specs.Opened.{rowPasses, columnOf, openedRow, openedPart, firstHalf, secondHalf};
+ghost use Rattle.rules.specs.Matrices.{row, entry};
+ghost use Rattle.rules.specs.Dealing.{inGroup, matrixPasses, coefficientsBelow, polynomialsBelow, fourBelow, pairBelow, opens, alongRow, lEquation, jEquation, polynomialCheck, openedAt, αEquation, βEquation, pointCheck, shareCheck};
+ghost use Rattle.checking.specs.Equations.{Checkable, Line, elementAt, alongPart, alongLine, equation};
+
+type Matrix = [[Element; 8]; 8];
 
 // ---- refusal 8
 
 fn row_passes(group: Group, k: usize, c: [Element; 8]) -> bool
     requires { ⌜ (0 < group .p) × (k ≤ 8) ⌝ }
-    ensures { λ r. ⌜ r ≡ rowPasses group k c ⌝ }
+    ensures { λ r. ⌜ r ≡ allBelow k (λ l. inGroup group (elementAt c l)) ⌝ }
 {
     let mut l: usize = 0;
     while l < k {
@@ -30,7 +33,8 @@ fn row_passes(group: Group, k: usize, c: [Element; 8]) -> bool
     true
 }
 
-pub fn matrix_passes(group: Group, k: usize, c: [[Element; 8]; 8]) -> bool
+// Refusal 8 holds of no entry.
+pub fn matrix_passes(group: Group, k: usize, c: Matrix) -> bool
     requires { ⌜ (0 < group .p) × (k ≤ 8) ⌝ }
     ensures { λ r. ⌜ r ≡ matrixPasses group k c ⌝ }
 {
@@ -62,6 +66,7 @@ fn coefficients_below(q: u16, k: usize, a: [Exponent; 8]) -> bool
     true
 }
 
+// Refusal 9 holds of no coefficient of a send.
 pub fn polynomials_below(q: u16, k: usize, all: Polynomials) -> bool
     requires { ⌜ k ≤ 8 ⌝ }
     ensures { λ r. ⌜ r ≡ polynomialsBelow q k all ⌝ }
@@ -82,6 +87,7 @@ pub fn polynomials_below(q: u16, k: usize, all: Polynomials) -> bool
     coefficients_below(q, k, b2)
 }
 
+// Refusal 9 holds of no number of an echo or ready.
 pub fn four_below(q: u16, four: Four) -> bool
     ensures { λ r. ⌜ r ≡ fourBelow q four ⌝ }
 {
@@ -101,6 +107,7 @@ pub fn four_below(q: u16, four: Four) -> bool
     beta2.0 < q
 }
 
+// Refusal 9 holds of neither number of a recovery share.
 pub fn pair_below(q: u16, pair: Pair) -> bool
     ensures { λ r. ⌜ r ≡ pairBelow q pair ⌝ }
 {
@@ -112,27 +119,27 @@ pub fn pair_below(q: u16, pair: Pair) -> bool
     second.0 < q
 }
 
-// ---- products of powers
+// ---- lines, and what they open
 
-fn column(k: usize, c: [[Element; 8]; 8], l: usize) -> [Element; 8]
+fn column(k: usize, c: Matrix, l: usize) -> [Element; 8]
     requires { ⌜ (k ≤ 8) × (l < 8) ⌝ }
-    ensures { λ r. ⌜ r ≡ columnOf k c l ⌝ }
+    ensures { λ r. ⌜ r ≡ row k (element 0) (λ j. element (entry c j l)) ⌝ }
 {
     let mut made = [Element(0); 8];
     let mut j: usize = 0;
     while j < k {
-        let row = c[j];
-        let e = row[l];
+        let line = c[j];
+        let e = line[l];
         made[j] = e;
         j += 1;
     }
     made
 }
 
-// The product over l of c_l to the power w y^l.
-fn opened_part(group: Group, k: usize, c: [Element; 8], w: Exponent, y: u16) -> Element
-    requires { ⌜ (0 < group .p) × (0 < group .q) × (k ≤ 8) × (rowPasses group k c ≡ true) ⌝ }
-    ensures { λ r. ⌜ r ≡ element (openedPart group k c (w .0) y) ⌝ }
+// The product over l of c_l to the power w x^l.
+fn opened_part(group: Group, k: usize, c: [Element; 8], w: Exponent, x: u16) -> Element
+    requires { ⌜ Line group k c ⌝ }
+    ensures { λ r. ⌜ r ≡ element (alongPart k c (w .0) x % group .p) ⌝ }
 {
     let p = group.p;
     let q = group.q;
@@ -143,23 +150,23 @@ fn opened_part(group: Group, k: usize, c: [Element; 8], w: Exponent, y: u16) -> 
         let e = c[l];
         let factor = arithmetic::power(p, e, power);
         made = arithmetic::times(p, made, factor);
-        power = arithmetic::product(q, power, Exponent(y));
+        power = arithmetic::product(q, power, Exponent(x));
         l += 1;
     }
     made
 }
 
-// The product over l of c_l to the power y^l.
-fn opened_row(group: Group, k: usize, c: [Element; 8], y: u16) -> Element
-    requires { ⌜ (0 < group .p) × (0 < group .q) × (k ≤ 8) × (rowPasses group k c ≡ true) ⌝ }
-    ensures { λ r. ⌜ r ≡ element (openedRow group k c y) ⌝ }
+// The product over l of c_l to the power x^l.
+fn opened_line(group: Group, k: usize, c: [Element; 8], x: u16) -> Element
+    requires { ⌜ Line group k c ⌝ }
+    ensures { λ r. ⌜ r ≡ element (alongLine k c x % group .p) ⌝ }
 {
-    opened_part(group, k, c, Exponent(1), y)
+    opened_part(group, k, c, Exponent(1), x)
 }
 
 // The product over j and l of C(j,l) to the power x^j y^l.
-fn opened_at(group: Group, k: usize, c: [[Element; 8]; 8], x: u16, y: u16) -> Element
-    requires { ⌜ (0 < group .p) × (0 < group .q) × (k ≤ 8) × (matrixPasses group k c ≡ true) ⌝ }
+fn opened_at(group: Group, k: usize, c: Matrix, x: u16, y: u16) -> Element
+    requires { ⌜ Checkable group k c ⌝ }
     ensures { λ r. ⌜ r ≡ element (openedAt group k c x y) ⌝ }
 {
     let p = group.p;
@@ -177,110 +184,105 @@ fn opened_at(group: Group, k: usize, c: [[Element; 8]; 8], x: u16, y: u16) -> El
     made
 }
 
-// ---- the three checks
+// ---- equations
 
-// For each l: g^(a_l) h^(a'_l) is the product over j of C(j,l)^(i^j).
-fn first_half(
-    group: Group,
-    k: usize,
-    c: [[Element; 8]; 8],
-    i: u16,
-    a: [Exponent; 8],
-    a2: [Exponent; 8],
-) -> bool
-    requires { ⌜ (0 < group .p) × (0 < group .q) × (k ≤ 8) × (matrixPasses group k c ≡ true) ⌝ }
-    ensures { λ r. ⌜ r ≡ firstHalf group k c i a a2 ⌝ }
+// g^x h^y is what the line opens at i.
+fn line_opens(group: Group, k: usize, c: [Element; 8], i: u16, x: Exponent, y: Exponent) -> bool
+    requires { ⌜ Line group k c ⌝ }
+    ensures { λ r. ⌜ r ≡ opens group (x .0) (y .0) (alongLine k c i % group .p) ⌝ }
 {
-    let mut l: usize = 0;
-    while l < k {
-        let x = a[l];
-        let y = a2[l];
-        let line = column(k, c, l);
-        let left = arithmetic::commit(group, x, y);
-        let right = opened_row(group, k, line, i);
-        if left.0 != right.0 {
-            return false;
-        }
-        l += 1;
-    }
-    true
+    let left = arithmetic::commit(group, x, y);
+    let right = opened_line(group, k, c, i);
+    left.0 == right.0
 }
 
-// For each j: g^(b_j) h^(b'_j) is the product over l of C(j,l)^(i^l).
-fn second_half(
-    group: Group,
-    k: usize,
-    c: [[Element; 8]; 8],
-    i: u16,
-    b: [Exponent; 8],
-    b2: [Exponent; 8],
-) -> bool
-    requires { ⌜ (0 < group .p) × (0 < group .q) × (k ≤ 8) × (matrixPasses group k c ≡ true) ⌝ }
-    ensures { λ r. ⌜ r ≡ secondHalf group k c i b b2 ⌝ }
-{
-    let mut j: usize = 0;
-    while j < k {
-        let x = b[j];
-        let y = b2[j];
-        let line = c[j];
-        let left = arithmetic::commit(group, x, y);
-        let right = opened_row(group, k, line, i);
-        if left.0 != right.0 {
-            return false;
-        }
-        j += 1;
-    }
-    true
-}
-
-pub fn polynomial_check(
-    group: Group,
-    k: usize,
-    c: [[Element; 8]; 8],
-    i: u16,
-    all: Polynomials,
-) -> bool
-    requires { ⌜ (0 < group .p) × (0 < group .q) × (k ≤ 8) × (matrixPasses group k c ≡ true) ⌝ }
-    ensures { λ r. ⌜ r ≡ polynomialCheck group k c i all ⌝ }
+// g^(a_l) h^(a'_l) is the product over j of C(j,l)^(i^j).
+fn l_equation(group: Group, k: usize, c: Matrix, i: u16, all: Polynomials, l: usize) -> bool
+    requires { ⌜ Checkable group k c × (l < k) ⌝ }
+    ensures { λ r. ⌜ r ≡ lEquation group k c i all l ⌝ }
 {
     let a = all.a;
     let a2 = all.a2;
-    if !first_half(group, k, c, i, a, a2) {
-        return false;
-    }
+    line_opens(group, k, column(k, c, l), i, a[l], a2[l])
+}
+
+// g^(b_j) h^(b'_j) is the product over l of C(j,l)^(i^l).
+fn j_equation(group: Group, k: usize, c: Matrix, i: u16, all: Polynomials, j: usize) -> bool
+    requires { ⌜ Checkable group k c × (j < k) ⌝ }
+    ensures { λ r. ⌜ r ≡ jEquation group k c i all j ⌝ }
+{
     let b = all.b;
     let b2 = all.b2;
-    second_half(group, k, c, i, b, b2)
+    line_opens(group, k, c[j], i, b[j], b2[j])
+}
+
+// Equation e of the polynomial check: the l equations, and then the j equations.
+fn equation_holds(group: Group, k: usize, c: Matrix, i: u16, all: Polynomials, e: usize) -> bool
+    requires { ⌜ Checkable group k c × (e < k + k) ⌝ }
+    ensures { λ r. ⌜ r ≡ equation group k c i all e ⌝ }
+{
+    if e < k {
+        return l_equation(group, k, c, i, all, e);
+    }
+    j_equation(group, k, c, i, all, e - k)
+}
+
+// g^u h^v is the product over j and l of C(j,l)^(x^j y^l).
+fn point_opens(group: Group, k: usize, c: Matrix, x: u16, y: u16, u: Exponent, v: Exponent) -> bool
+    requires { ⌜ Checkable group k c ⌝ }
+    ensures { λ r. ⌜ r ≡ opens group (u .0) (v .0) (openedAt group k c x y) ⌝ }
+{
+    let left = arithmetic::commit(group, u, v);
+    let right = opened_at(group, k, c, x, y);
+    left.0 == right.0
+}
+
+fn alpha_equation(group: Group, k: usize, c: Matrix, i: u16, m: u16, four: Four) -> bool
+    requires { ⌜ Checkable group k c ⌝ }
+    ensures { λ r. ⌜ r ≡ αEquation group k c i m four ⌝ }
+{
+    point_opens(group, k, c, m, i, four.alpha, four.alpha2)
+}
+
+fn beta_equation(group: Group, k: usize, c: Matrix, i: u16, m: u16, four: Four) -> bool
+    requires { ⌜ Checkable group k c ⌝ }
+    ensures { λ r. ⌜ r ≡ βEquation group k c i m four ⌝ }
+{
+    point_opens(group, k, c, i, m, four.beta, four.beta2)
+}
+
+// ---- the three checks
+
+// For box i: its equations by number, up to the first that fails.
+pub fn polynomial_check(group: Group, k: usize, c: Matrix, i: u16, all: Polynomials) -> bool
+    requires { ⌜ Checkable group k c ⌝ }
+    ensures { λ r. ⌜ r ≡ polynomialCheck group k c i all ⌝ }
+{
+    let mut e: usize = 0;
+    while e < k + k {
+        if !equation_holds(group, k, c, i, all, e) {
+            return false;
+        }
+        e += 1;
+    }
+    true
 }
 
 // At box i, from box m.
-pub fn point_check(group: Group, k: usize, c: [[Element; 8]; 8], i: u16, m: u16, four: Four) -> bool
-    requires { ⌜ (0 < group .p) × (0 < group .q) × (k ≤ 8) × (matrixPasses group k c ≡ true) ⌝ }
+pub fn point_check(group: Group, k: usize, c: Matrix, i: u16, m: u16, four: Four) -> bool
+    requires { ⌜ Checkable group k c ⌝ }
     ensures { λ r. ⌜ r ≡ pointCheck group k c i m four ⌝ }
 {
-    let alpha = four.alpha;
-    let alpha2 = four.alpha2;
-    let left = arithmetic::commit(group, alpha, alpha2);
-    let right = opened_at(group, k, c, m, i);
-    if left.0 != right.0 {
+    if !alpha_equation(group, k, c, i, m, four) {
         return false;
     }
-    let beta = four.beta;
-    let beta2 = four.beta2;
-    let left2 = arithmetic::commit(group, beta, beta2);
-    let right2 = opened_at(group, k, c, i, m);
-    left2.0 == right2.0
+    beta_equation(group, k, c, i, m, four)
 }
 
-// For box m.
-pub fn share_check(group: Group, k: usize, c: [[Element; 8]; 8], m: u16, pair: Pair) -> bool
-    requires { ⌜ (0 < group .p) × (0 < group .q) × (1 ≤ k) × (k ≤ 8) × (matrixPasses group k c ≡ true) ⌝ }
+// For box m: one equation, over column 0.
+pub fn share_check(group: Group, k: usize, c: Matrix, m: u16, pair: Pair) -> bool
+    requires { ⌜ Checkable group k c ⌝ }
     ensures { λ r. ⌜ r ≡ shareCheck group k c m pair ⌝ }
 {
-    let first = pair.first;
-    let second = pair.second;
-    let line = column(k, c, 0);
-    let left = arithmetic::commit(group, first, second);
-    let right = opened_row(group, k, line, m);
-    left.0 == right.0
+    line_opens(group, k, column(k, c, 0), m, pair.first, pair.second)
 }

@@ -1,2 +1,2 @@
--- Rows and lists that only this crate's contracts name.
+-- What only this crate's contracts name.
 pub mod Rows

@@ -5,20 +5,26 @@ use rules::Exponent;
 use rules::Four;
 use rules::Group;
 use rules::Polynomials;
+use rules::SetUp;
 ghost use mathlib.Core.Path.{_≡_};
+ghost use mathlib.Core.Bool.{true, false};
 ghost use mathlib.Core.List.{_∷_};
 ghost use Prim.Native.Nat.{_+_, _*_, _≤_, _<_};
+ghost use lib.Dec.{ltb};
 ghost use lib.ListN.{length, getD};
+ghost use Rattle.folds.specs.Below.{allBelow};
 ghost use Rattle.rules.specs.Numbers.{exponent, element};
 ghost use Rattle.rules.specs.Matrices.{row, coefficient, coefficient₂, toBoxes, zeroFour};
-ghost use Rattle.rules.specs.Dealing.{fromCoins, coinsKeep, committed, commitment, valueAt, alongX, alongY, polynomialsOf};
+ghost use Rattle.rules.specs.Dealing.{fromCoins, coinsKeep, committed, commitment, valueAt, polynomialsOf};
 ghost use Rattle.rules.specs.Steps.{echoFour};
-ghost use Rattle.dealing.specs.Rows.{coinsBelow, coinRow, commitRow, columnOf, zeroPolynomials};
+ghost use Rattle.dealing.specs.Rows.{Dealable, ForBoxes, alongAt, zeroPolynomials};
+
+type Square = [[Exponent; 8]; 8];
 
 // ---- the coins
 
 fn coins_below(q: u16, coins: &[u16]) -> bool
-    ensures { λ r. ⌜ r ≡ coinsBelow q (now (coins .entry)) ⌝ }
+    ensures { λ r. ⌜ r ≡ allBelow (length (now (coins .entry))) (λ c. ltb (getD (now (coins .entry)) c 0) q) ⌝ }
 {
     let mut c: usize = 0;
     while c < coins.len() {
@@ -31,13 +37,16 @@ fn coins_below(q: u16, coins: &[u16]) -> bool
 }
 
 // Refusal 14 does not hold.
-pub fn coins_keep(q: u16, k: usize, secret: u32, coins: &[u16]) -> bool
-    requires { ⌜ (1 ≤ k) × (k ≤ 8) ⌝ }
-    ensures { λ r. ⌜ r ≡ coinsKeep q k secret (now (coins .entry)) ⌝ }
+pub fn coins_keep(u: SetUp, secret: u32, coins: &[u16]) -> bool
+    requires { ⌜ Dealable u ⌝ }
+    ensures { λ r. ⌜ r ≡ coinsKeep u secret (now (coins .entry)) ⌝ }
 {
+    let group = Group::at((u.group - 1) as usize);
+    let q = group.q;
     if q as u32 <= secret {
         return false;
     }
+    let k = u.k as usize;
     if coins.len() != 2 * (k * k) - 1 {
         return false;
     }
@@ -57,7 +66,7 @@ fn coin(secret: u16, coins: &[u16], at: usize) -> Exponent
 
 fn coin_row(k: usize, secret: u16, coins: &[u16], from: usize) -> [Exponent; 8]
     requires { ⌜ (k ≤ 8) × (from + k ≤ length (now coins) + 1) ⌝ }
-    ensures { λ r. ⌜ r ≡ coinRow k secret (now (coins .entry)) from ⌝ }
+    ensures { λ r. ⌜ r ≡ row k (exponent 0) (λ l. exponent (getD (secret ∷ now (coins .entry)) (from + l) 0)) ⌝ }
 {
     let mut made = [Exponent(0); 8];
     let mut l: usize = 0;
@@ -70,12 +79,13 @@ fn coin_row(k: usize, secret: u16, coins: &[u16], from: usize) -> [Exponent; 8]
 }
 
 // f from 0 on, f' from k² on.
-pub fn from_coins(k: usize, secret: u16, coins: &[u16], from: usize) -> [[Exponent; 8]; 8]
-    requires { ⌜ (k ≤ 8) × (from + k * k ≤ length (now coins) + 1) ⌝ }
-    ensures { λ r. ⌜ r ≡ fromCoins k secret (now (coins .entry)) from ⌝ }
+pub fn from_coins(u: SetUp, secret: u16, coins: &[u16], from: usize) -> Square
+    requires { ⌜ (u .k ≤ 8) × (from + u .k * u .k ≤ length (now coins) + 1) ⌝ }
+    ensures { λ r. ⌜ r ≡ fromCoins u secret (now (coins .entry)) from ⌝ }
 {
     let zeros = [Exponent(0); 8];
     let mut made = [zeros; 8];
+    let k = u.k as usize;
     let mut j: usize = 0;
     while j < k {
         let x = coin_row(k, secret, coins, from + j * k);
@@ -89,7 +99,7 @@ pub fn from_coins(k: usize, secret: u16, coins: &[u16], from: usize) -> [[Expone
 
 fn commit_row(group: Group, k: usize, f: [Exponent; 8], f2: [Exponent; 8]) -> [Element; 8]
     requires { ⌜ (0 < group .p) × (k ≤ 8) ⌝ }
-    ensures { λ r. ⌜ r ≡ commitRow group k f f2 ⌝ }
+    ensures { λ r. ⌜ r ≡ row k (element 0) (λ l. element (committed group (coefficient f l) (coefficient f2 l))) ⌝ }
 {
     let mut made = [Element(0); 8];
     let mut l: usize = 0;
@@ -103,12 +113,8 @@ fn commit_row(group: Group, k: usize, f: [Exponent; 8], f2: [Exponent; 8]) -> [E
     made
 }
 
-pub fn commit_all(
-    group: Group,
-    k: usize,
-    f: [[Exponent; 8]; 8],
-    f2: [[Exponent; 8]; 8],
-) -> [[Element; 8]; 8]
+// C, by f and f'.
+pub fn commit_all(group: Group, k: usize, f: Square, f2: Square) -> [[Element; 8]; 8]
     requires { ⌜ (0 < group .p) × (k ≤ 8) ⌝ }
     ensures { λ r. ⌜ r ≡ commitment group k f f2 ⌝ }
 {
@@ -145,9 +151,9 @@ pub fn value_at(q: u16, k: usize, a: [Exponent; 8], x: u16) -> Exponent
     sum
 }
 
-fn column(k: usize, f: [[Exponent; 8]; 8], l: usize) -> [Exponent; 8]
+fn column(k: usize, f: Square, l: usize) -> [Exponent; 8]
     requires { ⌜ (k ≤ 8) × (l < 8) ⌝ }
-    ensures { λ r. ⌜ r ≡ columnOf k f l ⌝ }
+    ensures { λ r. ⌜ r ≡ row k (exponent 0) (λ j. exponent (coefficient₂ f j l)) ⌝ }
 {
     let mut made = [Exponent(0); 8];
     let mut j: usize = 0;
@@ -160,51 +166,34 @@ fn column(k: usize, f: [[Exponent; 8]; 8], l: usize) -> [Exponent; 8]
     made
 }
 
-fn along_y(q: u16, k: usize, f: [[Exponent; 8]; 8], i: u16) -> [Exponent; 8]
+// The coefficients of f(x, i), or across those of f(i, y).
+fn along(q: u16, k: usize, f: Square, i: u16, across: bool) -> [Exponent; 8]
     requires { ⌜ (0 < q) × (k ≤ 8) ⌝ }
-    ensures { λ r. ⌜ r ≡ alongY q k f i ⌝ }
+    ensures { λ r. ⌜ r ≡ row k (exponent 0) (alongAt across q k f i) ⌝ }
 {
     let mut made = [Exponent(0); 8];
-    let mut l: usize = 0;
-    while l < k {
-        let line = column(k, f, l);
+    let mut n: usize = 0;
+    while n < k {
+        let mut line = f[n];
+        if across {
+            line = column(k, f, n);
+        }
         let x = value_at(q, k, line, i);
-        made[l] = x;
-        l += 1;
-    }
-    made
-}
-
-fn along_x(q: u16, k: usize, f: [[Exponent; 8]; 8], i: u16) -> [Exponent; 8]
-    requires { ⌜ (0 < q) × (k ≤ 8) ⌝ }
-    ensures { λ r. ⌜ r ≡ alongX q k f i ⌝ }
-{
-    let mut made = [Exponent(0); 8];
-    let mut j: usize = 0;
-    while j < k {
-        let line = f[j];
-        let x = value_at(q, k, line, i);
-        made[j] = x;
-        j += 1;
+        made[n] = x;
+        n += 1;
     }
     made
 }
 
 // What box i gets.
-pub fn polynomials_for(
-    q: u16,
-    k: usize,
-    f: [[Exponent; 8]; 8],
-    f2: [[Exponent; 8]; 8],
-    i: u16,
-) -> Polynomials
+pub fn polynomials_for(q: u16, k: usize, f: Square, f2: Square, i: u16) -> Polynomials
     requires { ⌜ (0 < q) × (k ≤ 8) ⌝ }
     ensures { λ r. ⌜ r ≡ polynomialsOf q k f f2 i ⌝ }
 {
-    let a = along_y(q, k, f, i);
-    let a2 = along_y(q, k, f2, i);
-    let b = along_x(q, k, f, i);
-    let b2 = along_x(q, k, f2, i);
+    let a = along(q, k, f, i, true);
+    let a2 = along(q, k, f2, i, true);
+    let b = along(q, k, f, i, false);
+    let b2 = along(q, k, f2, i, false);
     Polynomials { a, a2, b, b2 }
 }
 
@@ -220,25 +209,17 @@ fn zero_polynomials() -> Polynomials
 }
 
 // What boxes 1 to n get; box 1's stands at 0.
-pub fn polynomials_for_all(
-    q: u16,
-    k: usize,
-    n: usize,
-    f: [[Exponent; 8]; 8],
-    f2: [[Exponent; 8]; 8],
-) -> [Polynomials; 10]
-    requires { ⌜ (0 < q) × (k ≤ 8) × (n ≤ 10) ⌝ }
+pub fn polynomials_for_all(q: u16, k: usize, n: usize, f: Square, f2: Square) -> [Polynomials; 10]
+    requires { ⌜ ForBoxes q k n ⌝ }
     ensures { λ r. ⌜ r ≡ toBoxes n zeroPolynomials (polynomialsOf q k f f2) ⌝ }
 {
     let zero = zero_polynomials();
     let mut made = [zero; 10];
     let mut j: usize = 0;
-    let mut i: u16 = 1;
     while j < n {
-        let x = polynomials_for(q, k, f, f2, i);
+        let x = polynomials_for(q, k, f, f2, j as u16 + 1);
         made[j] = x;
         j += 1;
-        i += 1;
     }
     made
 }
@@ -264,8 +245,9 @@ fn echo_four(q: u16, k: usize, all: Polynomials, j: u16) -> Four
     }
 }
 
+// What an echo takes to boxes 1 to n; box 1's stands at 0.
 pub fn echo_fours(q: u16, k: usize, n: usize, all: Polynomials) -> [Four; 10]
-    requires { ⌜ (0 < q) × (k ≤ 8) × (n ≤ 10) ⌝ }
+    requires { ⌜ ForBoxes q k n ⌝ }
     ensures { λ r. ⌜ r ≡ toBoxes n zeroFour (echoFour q k all) ⌝ }
 {
     let zero = Four {
@@ -276,12 +258,10 @@ pub fn echo_fours(q: u16, k: usize, n: usize, all: Polynomials) -> [Four; 10]
     };
     let mut made = [zero; 10];
     let mut j: usize = 0;
-    let mut i: u16 = 1;
     while j < n {
-        let x = echo_four(q, k, all, i);
+        let x = echo_four(q, k, all, j as u16 + 1);
         made[j] = x;
         j += 1;
-        i += 1;
     }
     made
 }

@@ -44,6 +44,7 @@ use Rattle.demands.specs.Lives.Born.{good, own-setup, numbers-keep, fact
 use Rattle.demands.specs.Lives.Readies.{used-there, held-differ}
 use Acceptance.{Welcome, welcomed}
 use Origins.{Spoken, spoken}
+use Rattle.demands.specs.Own.{own-bytes}
 
 -- ---- the points behind a ready
 
@@ -115,10 +116,9 @@ module _ (u : SetUp) (i j : ℕ) (taken : setUp (own u i) .answer .no ≡ 0) (ta
   -- a call that wrote f j for each j, where f j is welcome at j
   arrives : (f : ℕ → Message) (tag : ℕ) → ((m : ℕ) → tagOf (f m) ≡ tag) → wrote (doing sender c) ≡ toEach (own u i) f
       → Welcome addressee i (f j) → answered ≡ 0
-  unfolding bytesOf
   arrives f tag same run w =
       let b = own-box u j taken′ in
-      let one : bytesOf (own u i) (f j) ≡ bytesOf (own u j) (f j) = refl in
+      let one : bytesOf (own u i) (f j) ≡ bytesOf (own u j) (f j) = own-bytes u i (f j) ∙ sym (own-bytes u j (f j)) in
       ap (λ (bytes : List ℕ). doing addressee (gets i bytes lent) .outcome .answer .no)
       (ap (λ (r : List ℕ). messageTo (u .n) r j) run
       ∙ message-to (own u i) f tag same j (b .0) (b .1)
@@ -127,8 +127,8 @@ module _ (u : SetUp) (i j : ℕ) (taken : setUp (own u i) .answer .no ≡ 0) (ta
       ∙ welcomed addressee i (f j) lent (life-sound (own u j) taken′ cs′ .0) from-box long w
 
   -- a message with a matrix
-  with-matrix : (m : Message) → tagOf m ≤ 3 → Fits (u .k) m → (tagOf m ≡ 1 → i ≡ u .d) → heardFor addressee (tagOf m) (i - 1) ≡ false
-      → (tagOf m ≤ 3 → matrixPasses (group u) (u .k) (matrixPart m) ≡ true) → exponentsKeep (order u) (u .k) m ≡ true → checks addressee i m ≡ true
+  with-matrix : (m : Message) → tagOf m ≤ 3 → Fits (own u j) m → (tagOf m ≡ 1 → i ≡ u .d) → heardFor addressee (tagOf m) (i - 1) ≡ false
+      → (tagOf m ≤ 3 → matrixPasses (group u) (u .k) (matrixPart m) ≡ true) → exponentsKeep (own u j) m ≡ true → checks addressee i m ≡ true
       → Welcome addressee i m
   with-matrix m low fits dealer unheard matrix exponents check =
       record {
@@ -159,7 +159,7 @@ module _ (u : SetUp) (i j : ℕ) (taken : setUp (own u i) .answer .no ≡ 0) (ta
       let t = said-by Echo e in
       let numbers = numbers-keep (own u i) taken in
       let high = size (own u i) numbers .high in
-      let ok = echo-passes (own u i) numbers (matrixIn (u .k) (t .0)) (t .1) i j (polynomialsIn (u .k) (t .0)) (t .2) in
+      let ok = echo-passes (own u i) numbers (matrixIn (own u i) (t .0)) (t .1) i j (polynomialsIn (own u i) (t .0)) (t .2) in
       arrives _ 2 (λ m. refl) (t .3)
       (with-matrix _ (omega arith) (read-room (own u i) (numbers .group-keeps) high (t .0) (t .1), four-room (own u i) (numbers .group-keeps) high _ (ok .0))
       (λ q. absurd (omega arith)) unheard (λ q. t .1) (ok .0) (rw at-j (ok .1)))
@@ -214,7 +214,7 @@ module _ (u : SetUp) (i j : ℕ) (taken : setUp (own u i) .answer .no ≡ 0) (ta
 -- is f(i, 0), f'(i, 0)
 pub dealt-share-kept : (u : SetUp) → setUp u .answer .no ≡ 0 → (cs : List Call) (c : Call) (C : List (List Element))
     → readiesSent u (c ∷ cs) C ≡ readiesSent u cs C + 1
-    → (secret : ℕ) (coins : List ℕ) → coinsKeep (order u) (u .k) secret coins ≡ true
+    → (secret : ℕ) (coins : List ℕ) → coinsKeep u secret coins ≡ true
     → Different u zeroFour (take (u .k) (points (slotAt (after u (c ∷ cs)) (ownSlot (after u (c ∷ cs)) C) .places))) (λ m f. f ≡ dealtPoint u secret coins m (u .i))
     → keptFor (after u (c ∷ cs)) C ≡ There (dealtShare u secret coins (u .i))
 dealt-share-kept u taken cs c C now secret coins keeps dealt =

@@ -49,7 +49,7 @@ use Rattle.demands.specs.Hiding as Hiding
 module _ (u : SetUp) (s : Sound u) where
   -- "From an honest deal (any secret below q, any coins), any k of the dealt shares, from k different boxes, give back the dealt
   -- pair f(0, 0), f'(0, 0), its first part the secret."
-  pub dealt-shares-give-the-secret : (secret : ℕ) (coins : List ℕ) → coinsKeep (order u) (u .k) secret coins ≡ true → (ps : List (Said Pair))
+  pub dealt-shares-give-the-secret : (secret : ℕ) (coins : List ℕ) → coinsKeep u secret coins ≡ true → (ps : List (Said Pair))
       → Different u noPair ps (λ m x. x ≡ dealtShare u secret coins m)
       → (recoveredFrom (order u) ps .first .0 ≡ secret) × (recoveredFrom (order u) ps .second .0 ≡ getD coins (u .k * u .k - 1) 0)
   dealt-shares-give-the-secret = Sharing.shares-give u s
@@ -95,7 +95,7 @@ module _ (u : SetUp) (i j : ℕ) (taken : setUp (own u i) .answer .no ≡ 0) (ta
 -- is sent are dealt ones; the pair that is then kept, for good, is the dealt share
 pub honest-points-give-the-dealt-share : (u : SetUp) → setUp u .answer .no ≡ 0 → (cs : List Call) (c : Call) (C : List (List Element))
     → readiesSent u (c ∷ cs) C ≡ readiesSent u cs C + 1
-    → (secret : ℕ) (coins : List ℕ) → coinsKeep (order u) (u .k) secret coins ≡ true
+    → (secret : ℕ) (coins : List ℕ) → coinsKeep u secret coins ≡ true
     → Different u zeroFour (take (u .k) (points (slotAt (after u (c ∷ cs)) (ownSlot (after u (c ∷ cs)) C) .places)))
     (λ m f. f ≡ dealtPoint u secret coins m (u .i))
     → keptFor (after u (c ∷ cs)) C ≡ There (dealtShare u secret coins (u .i))
@@ -130,7 +130,7 @@ module _ (u : SetUp) (taken : setUp u .answer .no ≡ 0) (cs : List Call) where
       → doing (after u cs) (gets sender bytes lent) .outcome .answer .no ≡ 0
       → (doing (after u cs) (gets sender bytes lent) .outcome .answer .sent ≡ Echo)
       × (wrote (doing (after u cs) (gets sender bytes lent))
-      ≡ toEach u (λ j. echo (matrixIn (u .k) bytes) (echoFour (order u) (u .k) (polynomialsIn (u .k) bytes) j)))
+      ≡ toEach u (λ j. echo (matrixIn u bytes) (echoFour (order u) (u .k) (polynomialsIn u bytes) j)))
   send-has-its-echo = Lives.exact-echo u taken cs
 
   -- "the kept pair is the interpolation at the moment ready was sent": there is one once ready was sent,
@@ -204,8 +204,8 @@ module _ (b : List ℕ) where
 -- coins that a deal takes, and its way back is itself with the secrets exchanged. It is made of the numbers of the class, the
 -- set and the two secrets; it knows no history.
 module _ (u : SetUp) (s : Sound u) (A : ℕ → Bool) (few : Few u A) (secret secret′ : ℕ) (low : secret < order u) (low′ : secret′ < order u)
-    (coins : List ℕ) (keep : coinsKeep (order u) (u .k) secret coins ≡ true) where
-  pub matching-coins-keep : coinsKeep (order u) (u .k) secret′ (matching u A secret secret′ coins) ≡ true
+    (coins : List ℕ) (keep : coinsKeep u secret coins ≡ true) where
+  pub matching-coins-keep : coinsKeep u secret′ (matching u A secret secret′ coins) ≡ true
   matching-coins-keep = Matching.matching-keeps u s A few secret secret′ low low′ coins keep
 
   pub matching-coins-go-back : matching u A secret′ secret (matching u A secret secret′ coins) ≡ coins
@@ -220,7 +220,7 @@ module _ (u : SetUp) (s : Sound u) (A : ℕ → Bool) (few : Few u A) (secret se
 pub two-secrets-look-the-same : (c : Class) → groupKeeps (c .numbers) ≡ true → numbersKeep (own (c .numbers) (c .numbers .d)) ≡ true
     → Few (c .numbers) (c .breaks) → c .breaks (c .numbers .d) ≡ false
     → (secret secret′ : ℕ) → secret < order (c .numbers) → secret′ < order (c .numbers)
-    → (coins : List ℕ) → coinsKeep (order (c .numbers)) (c .numbers .k) secret coins ≡ true
+    → (coins : List ℕ) → coinsKeep (c .numbers) secret coins ≡ true
     → (script : List Event) → Uncommanded c (played secret coins script)
     → Alike c (played secret coins script) (played secret′ (matching (c .numbers) (c .breaks) secret secret′ coins) script)
 two-secrets-look-the-same = Hiding.hides

@@ -218,7 +218,7 @@ module _ (t : Twice) (h : Given t) where
 pub hides : (c : Class) → groupKeeps (c .numbers) ≡ true → numbersKeep (own (c .numbers) (c .numbers .d)) ≡ true
     → Few (c .numbers) (c .breaks) → c .breaks (c .numbers .d) ≡ false
     → (s s′ : ℕ) → s < order (c .numbers) → s′ < order (c .numbers)
-    → (coins : List ℕ) → coinsKeep (order (c .numbers)) (c .numbers .k) s coins ≡ true
+    → (coins : List ℕ) → coinsKeep (c .numbers) s coins ≡ true
     → (script : List Event) → Uncommanded c (played s coins script)
     → Alike c (played s coins script) (played s′ (matching (c .numbers) (c .breaks) s s′ coins) script)
 hides c group numbers few dealer s s′ low low′ coins keep script u =

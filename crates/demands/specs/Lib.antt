@@ -4,6 +4,7 @@
 -- `Completeness`, `Hiding` and `Instances` have their modules in a folder of the same name, and say there in which order.
 pub mod Demands
 pub mod Histories
+pub mod Own
 pub mod MessageTo
 pub mod Sharing
 pub mod Lives

@@ -125,7 +125,7 @@ module _ (u : SetUp) (taken : setUp u .answer .no ≡ 0) (cs : List Call) where
       said-passes u taken (matrixOf (slotAt (after u cs) s)) (m + 1) f cs (sym (places-say s m a l used) ∙ e)
     where
       used : slotAt (after u cs) s .used ≡ true
-      used = good u taken cs .facts .slots s a .inUse ∙ anyBelow-here (held (slotAt (after u cs) s)) 10 m l (ap isHeld e)
+      used = good u taken cs .facts .slots .each s a .inUse ∙ anyBelow-here (held (slotAt (after u cs) s)) 10 m l (ap isHeld e)
 
   pub kept-passes : (s : ℕ) (p : Pair) → s < 20 → slotAt (after u cs) s .pair .kept ≡ There p
       → shareCheck (group u) (u .k) (matrixOf (slotAt (after u cs) s)) (u .i) p ≡ true
@@ -144,10 +144,10 @@ module _ (u : SetUp) (taken : setUp u .answer .no ≡ 0) (cs : List Call) where
   completed-kept s e =
       let x = after u cs in
       let facts = good u taken cs .facts in
-      let done = facts .completion s e in
+      let done = facts .progress .completion s e in
       let many = done .readies in
       let enough = le-leb (x .setup .k) (countR (slotAt x s)) (omega arith) in
-      (done .within, facts .slots s (done .within) .right ∙ or-right (leb (echoQuorum (x .setup)) (countE (slotAt x s))) _ enough)
+      (done .within, facts .slots .each s (done .within) .right ∙ or-right (leb (echoQuorum (x .setup)) (countE (slotAt x s))) _ enough)
 
   -- a kept recovery share passes the share check against the completed matrix
   pub shares-pass : (s m : ℕ) (p : Pair) → after u cs .progress .completion ≡ With s → m < 10 → shareAt (after u cs .shares) m ≡ There p
@@ -163,7 +163,7 @@ module _ (u : SetUp) (taken : setUp u .answer .no ≡ 0) (cs : List Call) where
   pub exact-echo : (sender lent : ℕ) (bytes : List ℕ) → tagIn bytes ≡ 1 → doing (after u cs) (gets sender bytes lent) .outcome .answer .no ≡ 0
       → (doing (after u cs) (gets sender bytes lent) .outcome .answer .sent ≡ Echo)
       × (wrote (doing (after u cs) (gets sender bytes lent))
-      ≡ toEach u (λ j. echo (matrixIn (u .k) bytes) (echoFour (order u) (u .k) (polynomialsIn (u .k) bytes) j)))
+      ≡ toEach u (λ j. echo (matrixIn u bytes) (echoFour (order u) (u .k) (polynomialsIn u bytes) j)))
   exact-echo sender lent bytes h e =
       subst (λ (v : SetUp). Echoed v bytes (doing (after u cs) (gets sender bytes lent))) (own-setup u taken cs)
       (echo-exact (after u cs) (good u taken cs) sender lent bytes h e)

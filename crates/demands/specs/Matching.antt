@@ -284,8 +284,8 @@ module _ (u : SetUp) (sound : Sound u) (A : ℕ → Bool) (few : Few u A) (s s�
       ∙ ap (λ t. t % q) gathered
       ∙ mul-zero-mod q d _ (one-less q (rule u sound .q-prime) n some below))
 
-  module _ (coins : List ℕ) (keeps : coinsKeep (order u) (u .k) s coins ≡ true) where
-    pub matching-keeps : coinsKeep (order u) (u .k) s′ (matching u A s s′ coins) ≡ true
+  module _ (coins : List ℕ) (keeps : coinsKeep u s coins ≡ true) where
+    pub matching-keeps : coinsKeep u s′ (matching u A s s′ coins) ≡ true
     unfolding coinsKeep
     matching-keeps =
         let q = order u in
@@ -302,7 +302,7 @@ module _ (u : SetUp) (sound : Sound u) (A : ℕ → Bool) (few : Few u A) (s s�
     matching-back =
         let q = order u in
         let m = matching u A s s′ coins in
-        ext-getD 0 (matching u A s′ s m) coins (length-matching u A s′ s m ∙ sym (coins-count (order u) (u .k) s coins keeps))
+        ext-getD 0 (matching u A s′ s m) coins (length-matching u A s′ s m ∙ sym (coins-count u s coins keeps))
         (λ c l.
         let w = length-matching u A s′ s m in
         let lt : c < 2 * (u .k * u .k) - 1 = omega arith in
@@ -313,7 +313,7 @@ module _ (u : SetUp) (sound : Sound u) (A : ℕ → Bool) (few : Few u A) (s s�
         ∙ mod-add-mod (getD coins c 0 + there) q here
         ∙ ap (λ t. t % q) (add-assoc (getD coins c 0) there here)
         ∙ add-zero-mod q (getD coins c 0) _ (moved-back u A s s′ low low′ (c + 1))
-        ∙ mod-eq-of-lt (coin-low (order u) (u .k) s coins keeps c (omega (arith, coins-count (order u) (u .k) s coins keeps))))
+        ∙ mod-eq-of-lt (coin-low u s coins keeps c (omega (arith, coins-count u s coins keeps))))
 
     -- number v of the secret and the coins behind it
     number-moves : (v : ℕ) → v < 2 * (u .k * u .k)
@@ -333,24 +333,24 @@ module _ (u : SetUp) (sound : Sound u) (A : ℕ → Bool) (few : Few u A) (s s�
         getD-matching u A s s′ coins c (omega arith) ∙ ap (λ v. (getD coins c 0 + moved u A s s′ v) % order u) (add-one c)
 
     f-moves : (j l : ℕ) → j < u .k → l < u .k
-        → coefficient₂ (fOf (u .k) s′ (matching u A s s′ coins)) j l
-        ≡ (coefficient₂ (fOf (u .k) s coins) j l + difference u s s′ * (z u A j * z u A l)) % order u
+        → coefficient₂ (fOf u s′ (matching u A s s′ coins)) j l
+        ≡ (coefficient₂ (fOf u s coins) j l + difference u s s′ * (z u A j * z u A l)) % order u
     f-moves j l hj hl =
         let small = size u sound .high in
         let within = row-within j (u .k) hj in
-        fOf-at (u .k) small s′ (matching u A s s′ coins) j l hj hl
+        fOf-at u small s′ (matching u A s s′ coins) j l hj hl
         ∙ number-moves (0 + (j * u .k + l)) (omega arith)
-        ∙ ap₂ (λ a b. (a + b) % order u) (sym (fOf-at (u .k) small s coins j l hj hl)) (moved-f u A s s′ j l hj hl)
+        ∙ ap₂ (λ a b. (a + b) % order u) (sym (fOf-at u small s coins j l hj hl)) (moved-f u A s s′ j l hj hl)
 
     f′-moves : (j l : ℕ) → j < u .k → l < u .k
-        → coefficient₂ (f′Of (u .k) s′ (matching u A s s′ coins)) j l
-        ≡ (coefficient₂ (f′Of (u .k) s coins) j l + difference′ u s s′ * (z u A j * z u A l)) % order u
+        → coefficient₂ (f′Of u s′ (matching u A s s′ coins)) j l
+        ≡ (coefficient₂ (f′Of u s coins) j l + difference′ u s s′ * (z u A j * z u A l)) % order u
     f′-moves j l hj hl =
         let small = size u sound .high in
         let within = row-within j (u .k) hj in
-        f′Of-at (u .k) small s′ (matching u A s s′ coins) j l hj hl
+        f′Of-at u small s′ (matching u A s s′ coins) j l hj hl
         ∙ number-moves (u .k * u .k + (j * u .k + l)) (omega arith)
-        ∙ ap₂ (λ a b. (a + b) % order u) (sym (f′Of-at (u .k) small s coins j l hj hl)) (moved-f′ u A s s′ j l hl)
+        ∙ ap₂ (λ a b. (a + b) % order u) (sym (f′Of-at u small s coins j l hj hl)) (moved-f′ u A s s′ j l hl)
 
     pub matching-matrix : dealtMatrix u s′ (matching u A s s′ coins) ≡ dealtMatrix u s coins
     unfolding commitment

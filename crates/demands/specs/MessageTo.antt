@@ -16,6 +16,6 @@ pub message-to : (u : SetUp) (f : ℕ → Message) (tag : ℕ) → ((j : ℕ) �
 unfolding messageTo
 message-to u f tag same j a b =
     let run : List ℕ = toEach u f in
-    let w : ℕ = wholeLength tag (u .k) in
+    let w : ℕ = wholeLength u tag in
     let width : length run / u .n ≡ w = ap (λ v. v / u .n) (length-toEach u f tag same) ∙ mul-div-cancel-left w {n = u .n} (omega arith) in
     ap (λ v. take v (drop ((j - 1) * v) run)) width ∙ piece-toEach u f tag same j a b

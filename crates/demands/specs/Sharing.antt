@@ -26,13 +26,13 @@ use Rattle.rules.specs.declared.Polynomials.{Polynomials}
 use Rattle.rules.specs.declared.SetUp.{SetUp}
 use Rattle.rules.specs.Numbers.{exponent, groupOf, groupKeeps, sizesKeep}
 use Rattle.rules.specs.Matrices.{entry, coefficient, coefficient₂, α, α′, β, β′, zeroFour}
-use Rattle.rules.specs.Dealing.{fOf, f′Of, coinsKeep, committed, commitment, alongY, alongX, polynomialsOf, valueAt, inGroup, matrixPasses, polynomialsBelow, fourBelow, pairBelow, polynomialCheck, pointCheck, shareCheck}
+use Rattle.rules.specs.Dealing.{fOf, f′Of, coinsKeep, committed, commitment, alongY, alongX, polynomialsOf, valueAt, inGroup, matrixPasses, polynomialsBelow, fourBelow, pairBelow, polynomialCheck, pointCheck, shareCheck, alongColumn, alongRow}
 use Rattle.rules.specs.Steps.{Said, through, pairFrom, readyFour, echoFour, recoveredFrom}
 use Rattle.rules.specs.Answers.{noPair}
 use Rattle.rules.specs.Laws.Numbers.{Sizes, sizes, GroupRule, group-rule, group-sizes}
 use Rattle.rules.specs.Laws.Matrices.{entry-at, square-some}
 use Rattle.rules.specs.Laws.Dealing.{alongY-at, alongX-at, crossed, first-value, secret-low, coins-count, coin-low, f-first, f′-first}
-use Rattle.rules.specs.Laws.Checks.{in-group, matrix-passes, alongColumn, alongRow, entry-below, entry-member, column-member, row-member, opened-columns, opened-rows, polynomial-checks, polynomial-columns, polynomial-rows, point-checks, point-α, point-β, share-checks, share-opens, polynomials-below, echo-below, ready-below, pairFrom-below}
+use Rattle.rules.specs.Laws.Checks.{in-group, matrix-passes, entry-below, entry-member, column-member, row-member, opened-columns, opened-rows, polynomial-checks, polynomial-columns, polynomial-rows, point-checks, point-α, point-β, polynomials-below, echo-below, ready-below, pairFrom-below, l-equation, j-equation, share-equation}
 
 -- ---- an honest deal
 
@@ -49,11 +49,11 @@ pub record Sound (u : SetUp) : Type 0 where
 
 module _ (u : SetUp) (secret : ℕ) (coins : List ℕ) where
   abbrev pub dealtMatrix : List (List Element)
-  dealtMatrix = commitment (group u) (u .k) (fOf (u .k) secret coins) (f′Of (u .k) secret coins)
+  dealtMatrix = commitment (group u) (u .k) (fOf u secret coins) (f′Of u secret coins)
 
   -- what box j gets
   abbrev pub dealtTo : ℕ → Polynomials
-  dealtTo j = polynomialsOf (order u) (u .k) (fOf (u .k) secret coins) (f′Of (u .k) secret coins) j
+  dealtTo j = polynomialsOf (order u) (u .k) (fOf u secret coins) (f′Of u secret coins) j
 
   -- a(j), a'(j), b(j), b'(j) of box m: what it sends to box j
   abbrev pub dealtPoint : ℕ → ℕ → Four
@@ -218,23 +218,23 @@ module _ (u : SetUp) (s : Sound u) where
         let q = order u in
         let small = size u s .high in
         polynomial-checks (group u) k dealt j (polynomialsOf q k f f′ j)
-        (λ l hl.
-        ap₂ (committed (group u)) (alongY-at k small q f j l hl) (alongY-at k small q f′ j l hl)
+        (λ l hl. l-equation (group u) k dealt j (polynomialsOf q k f f′ j) l .1
+        (ap₂ (committed (group u)) (alongY-at k small q f j l hl) (alongY-at k small q f′ j l hl)
         ∙ sums-open u s (λ i. entry dealt i l) (λ i. coefficient₂ f i l) (λ i. coefficient₂ f′ i l) (λ i. j ^ i)
-        (λ i hi. entry-open i l hi hl))
-        (λ l hl.
-        ap₂ (committed (group u)) (alongX-at k small q f j l hl) (alongX-at k small q f′ j l hl)
-        ∙ sums-open u s (entry dealt l) (coefficient₂ f l) (coefficient₂ f′ l) (λ i. j ^ i) (λ i hi. entry-open l i hl hi))
+        (λ i hi. entry-open i l hi hl)))
+        (λ l hl. j-equation (group u) k dealt j (polynomialsOf q k f f′ j) l .1
+        (ap₂ (committed (group u)) (alongX-at k small q f j l hl) (alongX-at k small q f′ j l hl)
+        ∙ sums-open u s (entry dealt l) (coefficient₂ f l) (coefficient₂ f′ l) (λ i. j ^ i) (λ i hi. entry-open l i hl hi)))
 
   -- the sends of an honest deal
-  pub send-passes : (secret : ℕ) (coins : List ℕ) → coinsKeep (order u) (u .k) secret coins ≡ true → (j : ℕ)
+  pub send-passes : (secret : ℕ) (coins : List ℕ) → coinsKeep u secret coins ≡ true → (j : ℕ)
       → (matrixPasses (group u) (u .k) (dealtMatrix u secret coins) ≡ true)
       × (polynomialsBelow (order u) (u .k) (dealtTo u secret coins j) ≡ true)
       × (polynomialCheck (group u) (u .k) (dealtMatrix u secret coins) j (dealtTo u secret coins j) ≡ true)
   unfolding polynomialsOf
   send-passes secret coins keeps j =
-      let f = fOf (u .k) secret coins in
-      let f′ = f′Of (u .k) secret coins in (
+      let f = fOf u secret coins in
+      let f′ = f′Of u secret coins in (
         dealt-passes f f′,
         polynomials-below (order u) (u .k) (dealtTo u secret coins j) (below-y f j) (below-y f′ j) (below-x f j) (below-x f′ j),
         dealt-fits f f′ j,
@@ -251,20 +251,20 @@ module _ (u : SetUp) (s : Sound u) where
         let k = u .k in (
           echo-below q (order-some u s) k P j,
           point-checks (group u) k C j i (echoFour q k P j)
-              (values-open u s (alongColumn (group u) k C i) (P .a) (P .a2) (polynomial-columns (group u) k C i P check) j
+              (values-open u s (alongColumn k C i) (P .a) (P .a2) (polynomial-columns (group u) k C i P check) j
               ∙ sym (opened-columns (group u) k C i j))
-              (values-open u s (alongRow (group u) k C i) (P .b) (P .b2) (polynomial-rows (group u) k C i P check) j
+              (values-open u s (alongRow k C i) (P .b) (P .b2) (polynomial-rows (group u) k C i P check) j
               ∙ sym (opened-rows (group u) k C j i)),
         )
 
     module _ (i : ℕ) (ps : List (Said Four)) (d : Different u zeroFour ps (λ m f. pointCheck (group u) (u .k) C i m f ≡ true)) where
       -- β, β' of the points fit the columns at i, and α, α' the rows
       fits-β : (m : ℕ) → m < u .k → committed (group u) (β (sayAt u s d m)) (β′ (sayAt u s d m))
-          ≡ prodBelow (u .k) (λ l. alongColumn (group u) (u .k) C i l ^ (boxAt u s d m ^ l)) % group u .p
+          ≡ prodBelow (u .k) (λ l. alongColumn (u .k) C i l ^ (boxAt u s d m ^ l)) % group u .p
       fits-β m l = point-β (group u) (u .k) C i _ _ (d .each m l) ∙ opened-columns (group u) (u .k) C i _
 
       fits-α : (m : ℕ) → m < u .k → committed (group u) (α (sayAt u s d m)) (α′ (sayAt u s d m))
-          ≡ prodBelow (u .k) (λ j. alongRow (group u) (u .k) C i j ^ (boxAt u s d m ^ j)) % group u .p
+          ≡ prodBelow (u .k) (λ j. alongRow (u .k) C i j ^ (boxAt u s d m ^ j)) % group u .p
       fits-α m l = point-α (group u) (u .k) C i _ _ (d .each m l) ∙ opened-rows (group u) (u .k) C _ i
 
       -- what box i sends to box j from k points that pass, whoever sent them
@@ -277,10 +277,10 @@ module _ (u : SetUp) (s : Sound u) where
           let k = u .k in (
             ready-below q (order-some u s) ps j,
             point-checks (group u) k C j i (readyFour q ps j)
-                (through-opens u s d (alongColumn (group u) k C i)
+                (through-opens u s d (alongColumn k C i)
                 (column-member (group u) k C passes (modulus-big u s) i) β β′ refl refl fits-β j
                 ∙ sym (opened-columns (group u) k C i j))
-                (through-opens u s d (alongRow (group u) k C i)
+                (through-opens u s d (alongRow k C i)
                 (row-member (group u) k C passes (modulus-big u s) i) α α′ refl refl fits-α j
                 ∙ sym (opened-rows (group u) k C j i)),
           )
@@ -290,14 +290,14 @@ module _ (u : SetUp) (s : Sound u) where
       unfolding pairFrom
       share-passes = (
         pairFrom-below (order u) (order-some u s) ps,
-        share-checks (group u) (u .k) C i (pairFrom (order u) ps)
-            (through-opens-first u s d (alongColumn (group u) (u .k) C i)
+        share-equation (group u) (u .k) C i (pairFrom (order u) ps) .1
+            (through-opens-first u s d (alongColumn (u .k) C i)
             (column-member (group u) (u .k) C passes (modulus-big u s) i) β β′ refl refl fits-β),
       )
 
   -- ---- what dealt points and shares give
 
-  module _ (secret : ℕ) (coins : List ℕ) (c : coinsKeep (order u) (u .k) secret coins ≡ true) where
+  module _ (secret : ℕ) (coins : List ℕ) (c : coinsKeep u secret coins ≡ true) where
     -- k dealt points give the dealt polynomials back: what box i sends to j, and its share
     pub points-give : (i : ℕ) (ps : List (Said Four)) → Different u zeroFour ps (λ m f. f ≡ dealtPoint u secret coins m i)
         → ((j : ℕ) → readyFour (order u) ps j ≡ dealtPoint u secret coins i j) × (pairFrom (order u) ps ≡ dealtShare u secret coins i)
@@ -306,8 +306,8 @@ module _ (u : SetUp) (s : Sound u) where
         let q = order u in
         let k = u .k in
         let small = size u s .high in
-        let f = fOf k secret coins in
-        let f′ = f′Of k secret coins in
+        let f = fOf u secret coins in
+        let f′ = f′Of u secret coins in
         let a : (j : ℕ) → through q ps β j ≡ valueAt q k (alongY q k f i) j =
         through-values u s d β refl (alongY q k f i) (λ m l. ap β (d .each m l) ∙ sym (crossed k small q f i _)) in
         let a′ : (j : ℕ) → through q ps β′ j ≡ valueAt q k (alongY q k f′ i) j =
@@ -328,19 +328,19 @@ module _ (u : SetUp) (s : Sound u) where
         let small = size u s .high in
         let low = size u s .low in
         let some : 0 < k = omega arith in
-        let f = fOf k secret coins in
-        let f′ = f′Of k secret coins in
-        let coin : k * k - 1 < length coins = omega (arith, coins-count q k secret coins c, square-some k some) in (
+        let f = fOf u secret coins in
+        let f′ = f′Of u secret coins in
+        let coin : k * k - 1 < length coins = omega (arith, coins-count u secret coins c, square-some k some) in (
           through-values u s d (λ x. x .first .0) refl (alongX q k f 0)
               (λ m l. ap (λ (x : Pair). x .first .0) (d .each m l) ∙ crossed k small q f _ 0) 0
               ∙ first-value k small q f some
-              ∙ ap (λ t. t % q) (f-first k some small secret coins)
-              ∙ mod-eq-of-lt (secret-low q k secret coins c),
+              ∙ ap (λ t. t % q) (f-first u some small secret coins)
+              ∙ mod-eq-of-lt (secret-low u secret coins c),
           through-values u s d (λ x. x .second .0) refl (alongX q k f′ 0)
               (λ m l. ap (λ (x : Pair). x .second .0) (d .each m l) ∙ crossed k small q f′ _ 0) 0
               ∙ first-value k small q f′ some
-              ∙ ap (λ t. t % q) (f′-first k some small secret coins)
-              ∙ mod-eq-of-lt (coin-low q k secret coins c _ coin),
+              ∙ ap (λ t. t % q) (f′-first u some small secret coins)
+              ∙ mod-eq-of-lt (coin-low u secret coins c _ coin),
         )
 
   -- ---- what verified shares open
@@ -355,5 +355,5 @@ module _ (u : SetUp) (s : Sound u) where
       let low = size u s .low in
       let some : 0 < k = omega arith in
       through-opens-first u s d (λ j. entry C j 0) (λ j l. entry-member (group u) k C passes j 0 l some)
-      (λ x. x .first .0) (λ x. x .second .0) refl refl (λ m l. share-opens (group u) k C _ _ (d .each m l))
+      (λ x. x .first .0) (λ x. x .second .0) refl refl (λ m l. share-equation (group u) k C _ _ .0 (d .each m l))
       ∙ mod-eq-of-lt (entry-below (group u) k C passes 0 0 some some)

@@ -20,20 +20,17 @@ pub fn share_of(q: u16, k: usize, f: [[Exponent; 8]; 8], f2: [[Exponent; 8]; 8],
     Pair { first, second }
 }
 
-// What box m sends to box i: a(i), a'(i), b(i), b'(i) of box m.
-pub fn point_from(
+// What box m sends to each box: to box i a(i), a'(i), b(i), b'(i) of box m, at i - 1.
+pub fn points_from(
     q: u16,
     k: usize,
     f: [[Exponent; 8]; 8],
     f2: [[Exponent; 8]; 8],
     m: u16,
-    i: usize,
-) -> Four
-    requires { ⌜ (0 < q) × (k ≤ 8) × (1 ≤ i) × (i ≤ 10) ⌝ }
+) -> [Four; 10]
+    requires { ⌜ (0 < q) × (k ≤ 8) ⌝ }
 {
-    let all = dealing::polynomials_for(q, k, f, f2, m);
-    let fours = dealing::echo_fours(q, k, 10, all);
-    fours[i - 1]
+    dealing::echo_fours(q, k, 10, dealing::polynomials_for(q, k, f, f2, m))
 }
 
 // ---- recovery
@@ -43,36 +40,33 @@ fn none_kept() -> [Keep; 10] {
     [absent; 10]
 }
 
-fn also_kept(keeps: [Keep; 10], m: usize, share: Pair) -> [Keep; 10]
-    requires { ⌜ (1 ≤ m) × (m ≤ 10) ⌝ }
+// The share of the box that stands at this place: box 1 at 0.
+fn also_kept(keeps: [Keep; 10], at: usize, share: Pair) -> [Keep; 10]
+    requires { ⌜ at < 10 ⌝ }
 {
     let mut made = keeps;
     let keep = Keep {
         kept: Kept::There(share),
     };
-    made[m - 1] = keep;
+    made[at] = keep;
     made
 }
 
-// The shares of boxes 1 and m.
-pub fn from_two(q: u16, of_1: Pair, m: usize, of_m: Pair) -> Pair
-    requires { ⌜ (10 ≤ q) × (1 ≤ m) × (m ≤ 10) ⌝ }
+// The shares of box 1 and of the box at this place.
+pub fn from_two(q: u16, of_1: Pair, at: usize, of_other: Pair) -> Pair
+    requires { ⌜ (10 ≤ q) × (at < 10) ⌝ }
 {
-    let none = none_kept();
-    let one = also_kept(none, 1, of_1);
-    let two = also_kept(one, m, of_m);
-    interpolation::recovered_from(q, 2, two)
+    let one = also_kept(none_kept(), 0, of_1);
+    interpolation::recovered_from(q, 2, also_kept(one, at, of_other))
 }
 
 // The shares of boxes 2, 4 and 5.
 pub fn from_three(q: u16, of_2: Pair, of_4: Pair, of_5: Pair) -> Pair
     requires { ⌜ 10 ≤ q ⌝ }
 {
-    let none = none_kept();
-    let one = also_kept(none, 2, of_2);
-    let two = also_kept(one, 4, of_4);
-    let three = also_kept(two, 5, of_5);
-    interpolation::recovered_from(q, 3, three)
+    let one = also_kept(none_kept(), 1, of_2);
+    let two = also_kept(one, 3, of_4);
+    interpolation::recovered_from(q, 3, also_kept(two, 4, of_5))
 }
 
 // ---- points

@@ -1,7 +1,6 @@
 // Group 1, n 4, t 1, k 2; f = 5 + 3y + 2x + 4xy, f' = 1 + 6y + 7x + 9xy.
 use crate::boxes;
 use crate::lines;
-use printing::number;
 use printing::numbered;
 use printing::words;
 use rules::Element;
@@ -11,10 +10,21 @@ use rules::Group;
 use rules::Pair;
 use rules::SetUp;
 ghost use Prim.Native.Nat.{_≤_, _<_};
+ghost use Rattle.checking.specs.Equations.{Checkable};
+
+const CLASS: SetUp = SetUp {
+    group: 1,
+    n: 4,
+    t: 1,
+    k: 2,
+    i: 1,
+    d: 1,
+    session: 7,
+};
 
 // P3 and P4.
 fn zeros_checked(group: Group, c: [[Element; 8]; 8])
-    requires { ⌜ (0 < group .p) × (0 < group .q) ⌝ }
+    requires { ⌜ Checkable group 2 c ⌝ }
 {
     let zeros = Pair {
         first: Exponent(0),
@@ -55,11 +65,13 @@ fn share_from_points(q: u16, from_2: Four, from_3: Four)
 
 // P5 and P6: box 1 gets the points of boxes 2 and 3.
 fn points_taken(group: Group, f: [[Exponent; 8]; 8], f2: [[Exponent; 8]; 8], c: [[Element; 8]; 8])
-    requires { ⌜ (0 < group .p) × (10 ≤ group .q) ⌝ }
+    requires { ⌜ Checkable group 2 c × (10 ≤ group .q) ⌝ }
 {
     let q = group.q;
-    let from_2 = boxes::point_from(q, 2, f, f2, 2, 1);
-    let from_3 = boxes::point_from(q, 2, f, f2, 3, 1);
+    let of_2 = boxes::points_from(q, 2, f, f2, 2);
+    let of_3 = boxes::points_from(q, 2, f, f2, 3);
+    let from_2 = of_2[0];
+    let from_3 = of_3[0];
     words(b"\nP5 ");
     lines::point_checked(group, 2, c, 1, 2, from_2);
     share_from_points(q, from_2, from_3);
@@ -72,14 +84,14 @@ fn recovered(q: u16, of_1: Pair, f: [[Exponent; 8]; 8], f2: [[Exponent; 8]; 8])
     let of_2 = boxes::share_of(q, 2, f, f2, 2);
     let of_3 = boxes::share_of(q, 2, f, f2, 3);
     words(b"\nP7 1 and 2 recover ");
-    lines::pair(boxes::from_two(q, of_1, 2, of_2));
+    lines::pair(boxes::from_two(q, of_1, 1, of_2));
     words(b"; 1 and 3 recover ");
-    lines::pair(boxes::from_two(q, of_1, 3, of_3));
+    lines::pair(boxes::from_two(q, of_1, 2, of_3));
 }
 
 // P8: verified shares need not agree on the secret.
 fn another_share(group: Group, of_1: Pair, c: [[Element; 8]; 8])
-    requires { ⌜ (0 < group .p) × (10 ≤ group .q) ⌝ }
+    requires { ⌜ Checkable group 2 c × (10 ≤ group .q) ⌝ }
 {
     let share = Pair {
         first: Exponent(0),
@@ -88,7 +100,7 @@ fn another_share(group: Group, of_1: Pair, c: [[Element; 8]; 8])
     words(b"\nP8 ");
     lines::share_checked(group, 2, c, 2, share);
     words(b"; with box 1 it recovers ");
-    let pair = boxes::from_two(group.q, of_1, 2, share);
+    let pair = boxes::from_two(group.q, of_1, 1, share);
     lines::pair(pair);
     let first = pair.first;
     let second = pair.second;
@@ -100,10 +112,10 @@ fn another_share(group: Group, of_1: Pair, c: [[Element; 8]; 8])
 fn sent(word: &[u8], group: Group, secret: u16, coins: &[u16; 7])
     requires { ⌜ (0 < group .p) × (0 < group .q) ⌝ }
 {
-    let f = dealing::from_coins(2, secret, coins, 0);
-    let f2 = dealing::from_coins(2, secret, coins, 4);
+    let f = dealing::from_coins(CLASS, secret, coins, 0);
+    let f2 = dealing::from_coins(CLASS, secret, coins, 4);
     words(word);
-    lines::matrix(2, dealing::commit_all(group, 2, f, f2));
+    printing::matrix(b", ", 2, dealing::commit_all(group, 2, f, f2));
     words(b" and a, a', b, b' of box 1 = ");
     lines::polynomials(2, dealing::polynomials_for(group.q, 2, f, f2, 1));
     numbered(b" for ", secret as usize);
@@ -131,8 +143,7 @@ fn quorum(at: usize, n: u32, t: u32, k: u32)
         d: 1,
         session: 7,
     };
-    lines::comma(at);
-    number(setup.echo_quorum() as usize);
+    printing::listed(b", ", at, setup.echo_quorum() as usize);
 }
 
 // P10.
@@ -145,28 +156,28 @@ fn quorums() {
 }
 
 // P1 to P8.
-fn dealt(group: Group, f: [[Exponent; 8]; 8], f2: [[Exponent; 8]; 8])
-    requires { ⌜ (0 < group .p) × (10 ≤ group .q) ⌝ }
+fn dealt(group: Group, f: [[Exponent; 8]; 8], f2: [[Exponent; 8]; 8], c: [[Element; 8]; 8])
+    requires { ⌜ Checkable group 2 c × (10 ≤ group .q) ⌝ }
 {
-    let c = dealing::commit_all(group, 2, f, f2);
     let of_1 = boxes::share_of(group.q, 2, f, f2, 1);
-    words(b"P1 C = ");
-    lines::matrix(2, c);
-    words(b"\nP2 shares ");
-    lines::shares(group.q, 2, 4, f, f2);
+    lines::dealt(b"P1 C = ", b"\nP2 shares ", group.q, 2, 4, f, f2, c);
     zeros_checked(group, c);
     points_taken(group, f, f2, c);
     recovered(group.q, of_1, f, f2);
     another_share(group, of_1, c);
 }
 
+// C passes refusal 8, as what is dealt does.
 pub fn sums(group: Group)
     requires { ⌜ (0 < group .p) × (10 ≤ group .q) ⌝ }
 {
     let coins = [3u16, 2, 4, 1, 6, 7, 9];
-    let f = dealing::from_coins(2, 5, &coins, 0);
-    let f2 = dealing::from_coins(2, 5, &coins, 4);
-    dealt(group, f, f2);
+    let f = dealing::from_coins(CLASS, 5, &coins, 0);
+    let f2 = dealing::from_coins(CLASS, 5, &coins, 4);
+    let c = dealing::commit_all(group, 2, f, f2);
+    if checking::matrix_passes(group, 2, c) {
+        dealt(group, f, f2, c);
+    }
     same_sends(group);
     quorums();
 }

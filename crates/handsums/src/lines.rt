@@ -1,6 +1,5 @@
 // The parts of a line that say what a sum gave; a comma and a space stand between two numbers of a list.
 use crate::boxes;
-use printing::number;
 use printing::numbered;
 use printing::words;
 use rules::Element;
@@ -10,25 +9,15 @@ use rules::Group;
 use rules::Pair;
 use rules::Polynomials;
 ghost use Prim.Native.Nat.{_≤_, _<_};
+ghost use Rattle.checking.specs.Equations.{Checkable};
 
-// Before every part of a list but the first, which stands at 0.
-pub fn comma(at: usize) {
-    if 0 < at {
-        words(b", ");
-    }
-}
-
-fn listed(at: usize, x: u16) {
-    comma(at);
-    number(x as usize);
+pub fn listed(at: usize, x: u16) {
+    printing::listed(b", ", at, x as usize);
 }
 
 pub fn pair(pair: Pair) {
-    let first = pair.first;
-    let second = pair.second;
     words(b"(");
-    listed(0, first.0);
-    listed(1, second.0);
+    printing::pair(b", ", pair);
     words(b")");
 }
 
@@ -68,32 +57,37 @@ pub fn polynomials(k: usize, all: Polynomials)
     coefficients(3 * k, k, b2);
 }
 
-// The first k rows and columns.
-pub fn matrix(k: usize, c: [[Element; 8]; 8]) {
-    let mut m: usize = 0;
-    while m < 64 {
-        let j = m / 8;
-        let l = m % 8;
-        let e = c[j][l];
-        if j < k && l < k {
-            listed(m, e.0);
+// Of boxes 1 to n.
+fn shares(q: u16, k: usize, n: u16, f: [[Exponent; 8]; 8], f2: [[Exponent; 8]; 8])
+    requires { ⌜ (0 < q) × (k ≤ 8) ⌝ }
+{
+    let mut i: u16 = 0;
+    while i < n {
+        if 0 < i {
+            words(b", ");
         }
-        m += 1;
+        i += 1;
+        pair(boxes::share_of(q, k, f, f2, i));
     }
 }
 
-// Of boxes 1 to n.
-pub fn shares(q: u16, k: usize, n: u16, f: [[Exponent; 8]; 8], f2: [[Exponent; 8]; 8])
-    requires { ⌜ (0 < q) × (k ≤ 8) × (n ≤ 10) ⌝ }
+// C, and the shares of boxes 1 to n, each behind its words.
+pub fn dealt(
+    of_c: &[u8],
+    of_shares: &[u8],
+    q: u16,
+    k: usize,
+    n: u16,
+    f: [[Exponent; 8]; 8],
+    f2: [[Exponent; 8]; 8],
+    c: [[Element; 8]; 8],
+)
+    requires { ⌜ (0 < q) × (k ≤ 8) ⌝ }
 {
-    let mut i: u16 = 1;
-    while i <= n {
-        if 1 < i {
-            words(b", ");
-        }
-        pair(boxes::share_of(q, k, f, f2, i));
-        i += 1;
-    }
+    words(of_c);
+    printing::matrix(b", ", k, c);
+    words(of_shares);
+    shares(q, k, n, f, f2);
 }
 
 // ---- checks
@@ -106,39 +100,20 @@ fn verdict(passes: bool) {
     }
 }
 
-// A check asks that C has passed refusal 8: under a C that has not, nothing passes.
-fn share_passes(group: Group, k: usize, c: [[Element; 8]; 8], m: u16, share: Pair) -> bool
-    requires { ⌜ (0 < group .p) × (0 < group .q) × (1 ≤ k) × (k ≤ 8) ⌝ }
-{
-    if !checking::matrix_passes(group, k, c) {
-        return false;
-    }
-    checking::share_check(group, k, c, m, share)
-}
-
-fn point_passes(group: Group, k: usize, c: [[Element; 8]; 8], i: u16, m: u16, four: Four) -> bool
-    requires { ⌜ (0 < group .p) × (0 < group .q) × (k ≤ 8) ⌝ }
-{
-    if !checking::matrix_passes(group, k, c) {
-        return false;
-    }
-    checking::point_check(group, k, c, i, m, four)
-}
-
 pub fn share_checked(group: Group, k: usize, c: [[Element; 8]; 8], m: u16, share: Pair)
-    requires { ⌜ (0 < group .p) × (0 < group .q) × (1 ≤ k) × (k ≤ 8) ⌝ }
+    requires { ⌜ Checkable group k c ⌝ }
 {
     pair(share);
     numbered(b" for box ", m as usize);
-    verdict(share_passes(group, k, c, m, share));
+    verdict(checking::share_check(group, k, c, m, share));
 }
 
 // At box i, from box m.
 pub fn point_checked(group: Group, k: usize, c: [[Element; 8]; 8], i: u16, m: u16, four: Four)
-    requires { ⌜ (0 < group .p) × (0 < group .q) × (k ≤ 8) ⌝ }
+    requires { ⌜ Checkable group k c ⌝ }
 {
     point(four);
     numbered(b" at box ", i as usize);
     numbered(b" from box ", m as usize);
-    verdict(point_passes(group, k, c, i, m, four));
+    verdict(checking::point_check(group, k, c, i, m, four));
 }

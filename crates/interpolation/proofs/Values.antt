@@ -1,102 +1,149 @@
--- The weighted sum is the interpolation, and the interpolation through the arrays of a list is the one through the list.
+-- What points give: the weighted sums are the values of the polynomials through the list that the points say; the points of a list are
+-- what the functions ask for; and what both sides of places give is what a ready sends.
 -- Assumes nothing.
-use mathlib.Core.List.{List, [], _∷_}
-use mathlib.Core.Path.{_≡_, ap, _∙_}
+use mathlib.Core.Bool.{Bool, true, false}
+use mathlib.Core.List.{List, [], _∷_, map, map-map}
+use mathlib.Core.Path.{_≡_, ap, sym, _∙_}
 use Prim.Native.Nat.{ℕ, _+_, _*_, _%_, _≤_, _<_}
 use native.Mathlib.Omega.{arith}
-use lib.ListN.{length, getD, take, List·getD-map}
-use Rattle.folds.specs.Stores.{getD-map-part}
-use Rattle.folds.specs.Runs.{gather, Every, every-nil, every-cons, every-gather-below, every-take}
-use Rattle.algebra.specs.Residues.{inverse, mod-mul-mod}
+use lib.ListN.{length, getD, take, length-take, length-map, List·getD-map}
+use Rattle.folds.specs.Runs.{gather, every-nil, every-cons, every-gather-below, every-take, Every, length-singles, getD-singles}
+use Rattle.folds.specs.Stores.{map-at}
+use Rattle.algebra.specs.Residues.{mod-mul-mod}
 use Rattle.algebra.specs.Sums.{sum-cong}
-use Rattle.algebra.specs.Interpolation.{others, interpolate, interpolate-cong}
+use Rattle.algebra.specs.Interpolation.{weight, interpolate, interpolate-cong}
 use Rattle.rules.specs.declared.Exponent.{Exponent}
-use Rattle.rules.specs.declared.Four.{Four}
 use Rattle.rules.specs.declared.Keep.{Keep}
 use Rattle.rules.specs.declared.Kept.{Kept}
 use Rattle.rules.specs.declared.Kept.the-variants.{Absent, There}
 use Rattle.rules.specs.declared.Pair.{Pair}
 use Rattle.rules.specs.declared.Place.{Place}
-use Rattle.rules.specs.declared.Point.{Point}
-use Rattle.rules.specs.declared.Point.the-variants.{Silent, Held}
-use Rattle.rules.specs.Numbers.{exponent}
 use Rattle.rules.specs.Matrices.{coefficient}
-use Rattle.rules.specs.Record.{silent, shareAt}
-use Rattle.rules.specs.Steps.{Said, pointAt, points, keptAt, sharePoints, through}
+use Rattle.rules.specs.Record.{shareAt}
+use Rattle.rules.specs.Steps.{Said, keptAt, points, sharePoints, through, pairFrom, readyFour}
 use Rattle.rules.specs.Laws.Matrices.{coefficient-at}
-use Rattle.interpolation.specs.Points.{boxAt, inArray, inArray-at}
-use Rattle.interpolation.specs.Weights.{weightRow, weightedSum}
+use Rattle.interpolation.specs.declared.lagrange.Points.{Points}
+use Rattle.interpolation.specs.Points.{boxAt, saidAt, saidBy, inArray-at, pointsOf, side, sideKept, sidePoints}
+use Rattle.interpolation.specs.Lagrange.{weightRow, weightedSum, weightedPair, inverseRow, pairThrough, fourThrough, Fit, Sides}
+use Rattle.interpolation.proofs.Lists.{nobody, said-of, side-points, side-count, side-boxes}
+
+-- ---- values at x
 
 -- The sum that Lagrange's weights weigh is the interpolation.
-pub weighted-interpolates : (q count : ℕ) (boxes : List ℕ) (x : ℕ) (y : List Exponent) → count ≤ 8
+weighted-interpolates : (q count : ℕ) (boxes : List ℕ) (x : ℕ) (y : List Exponent) → count ≤ 8
     → weightedSum q count (weightRow q count boxes x) y ≡ interpolate q count (boxAt boxes) (coefficient y) x
 unfolding weightedSum weightRow interpolate
 weighted-interpolates q count boxes x y h =
-    let w : ℕ → ℕ = λ i. others q count (boxAt boxes) i x * inverse q (others q count (boxAt boxes) i (boxAt boxes i)) in
+    let w = weight q count (boxAt boxes) x in
     sum-cong q count _ _
     (λ i l. ap (λ t. (t * coefficient y i) % q) (coefficient-at count (λ i. w i % q) h i l) ∙ mod-mul-mod (w i) (coefficient y i) q)
 
--- The polynomial through the arrays of a list, in one of the numbers, is the one through the list.
-pub arrays-through : {A : Type 0} (q : ℕ) (ps : List (Said A)) (number : A → Exponent) (x : ℕ) → length ps ≤ 8
-    → interpolate q (length ps) (boxAt (inArray 0 (λ p. p .box) ps)) (coefficient (inArray (exponent 0) (λ p. number (p .says)) ps)) x
-    ≡ through q ps (λ s. number s .0) x
-unfolding through
-arrays-through q ps number x h =
-    interpolate-cong q (length ps) _ _ _ _ x
-    (λ i l. inArray-at 0 (λ p. p .box) ps h i l)
-    (λ i l.
-    ap (λ (e : Exponent). e .0 % q) (inArray-at (exponent 0) (λ p. number (p .says)) ps h i l)
-    ∙ ap (λ t. t % q) (getD-map-part (λ p. number (p .says)) (λ e. e .0) (exponent 0) ps i))
-
--- ---- box numbers are at most 10
-
-abbrev nobody : {A : Type 0} → A → Said A
-nobody a = record { box = 0; says = a }
-
-abbrev Numbered : {A : Type 0} → A → List (Said A) → Type 0
-Numbered a ps = Every (λ p. p .box ≤ 10) (nobody a) ps
-
--- what the functions of the weights ask
-abbrev pub Asked : ℕ → ℕ → List ℕ → Type 0
-Asked q count boxes = (0 < q) × (count ≤ 8) × ((j : ℕ) → j < count → boxAt boxes j ≤ q)
-
--- The array of at most eight such numbers is what they ask.
-pub boxes-asked : {A : Type 0} (a : A) (q : ℕ) → 10 ≤ q → (ps : List (Said A)) → length ps ≤ 8 → Numbered a ps
-    → Asked q (length ps) (inArray 0 (λ p. p .box) ps)
-boxes-asked a q big ps h e = (
-  omega arith,
-  h,
-  λ j l.
-      let at = inArray-at 0 (λ p. p .box) ps h j l ∙ List·getD-map (λ p. p .box) ps j (nobody a) in
-      omega (arith, e j l),
-)
-
-module _ {A : Type 0} (a : A) where
-  none-numbered : Numbered a []
-  none-numbered = every-nil (λ p. p .box ≤ 10) (nobody a)
-
-  one-numbered : (m : ℕ) → m < 10 → (s : A) → Numbered a (record { box = m + 1; says = s } ∷ [])
-  one-numbered m h s = every-cons (λ p. p .box ≤ 10) (nobody a) (record { box = m + 1; says = s }) [] (omega arith) none-numbered
-
-  gather-numbered : (f : ℕ → List (Said A)) → ((m : ℕ) → m < 10 → Numbered a (f m)) → Numbered a (gather 10 f)
-  gather-numbered f h = every-gather-below (λ p. p .box ≤ 10) (nobody a) f 10 h
-
-pub points-numbered : (a : Four) (k : ℕ) (places : List Place) → Numbered a (take k (points places))
-unfolding points
-points-numbered a k places =
-    every-take (λ p. p .box ≤ 10) (nobody a) k _
-    (gather-numbered a (λ m. pointAt m (getD places m silent .point)) (λ m h. one m h (getD places m silent .point)))
+-- The interpolation over the arrays, in one number of each point, is that through the list that they say.
+said-through : (q : ℕ) (p : Points) (number : Pair → Exponent) (x : ℕ)
+    → interpolate q (p .count) (boxAt (p .boxes)) (λ i. number (saidAt p i .says) .0) x ≡ through q (saidBy p) (λ s. number s .0) x
+unfolding through saidBy
+said-through q p number x =
+    let said = gather (p .count) (λ i. saidAt p i ∷ []) in
+    interpolate-cong q (p .count) _ (λ i. getD (map (λ s. s .box) said) i 0) _ (λ i. getD (map (λ s. number (s .says) .0) said) i 0) x
+    (λ i l. sym (at (λ s. s .box) i l))
+    (λ i l. ap (λ t. t % q) (sym (at (λ s. number (s .says) .0) i l)))
+    ∙ ap
+    (λ n. interpolate q n (λ i. getD (map (λ s. s .box) said) i 0) (λ i. getD (map (λ s. number (s .says) .0) said) i 0) x)
+    (sym (length-singles (p .count) (saidAt p)))
   where
-    one : (m : ℕ) → m < 10 → (point : Point) → Numbered a (pointAt m point)
-    one m h Silent = none-numbered a
-    one m h (Held f) = one-numbered a m h f
+    at : (f : Said Pair → ℕ) (i : ℕ) → i < p .count → getD (map f (gather (p .count) (λ i. saidAt p i ∷ []))) i 0 ≡ f (saidAt p i)
+    at f i l =
+        let e = length-singles (p .count) (saidAt p) in
+        map-at f nobody 0 (gather (p .count) (λ i. saidAt p i ∷ [])) i (omega arith) ∙ ap f (getD-singles (p .count) (saidAt p) i nobody l)
 
-pub shares-numbered : (a : Pair) (k : ℕ) (keeps : List Keep) → Numbered a (take k (sharePoints keeps))
+-- What the weights at x make of the points is the pair of values at x.
+pub weighted-through : (q : ℕ) (p : Points) (x : ℕ) → p .count ≤ 8 → weightedPair q (weightRow q (p .count) (p .boxes) x) p ≡ pairThrough q (saidBy p) x
+unfolding weightedPair pairThrough
+weighted-through q p x h =
+    rw (
+      weighted-interpolates q (p .count) (p .boxes) x (p .first) h,
+      weighted-interpolates q (p .count) (p .boxes) x (p .second) h,
+      said-through q p (λ (s : Pair). s .first) x,
+      said-through q p (λ (s : Pair). s .second) x,
+    )
+
+-- ---- what the functions ask
+
+abbrev Numbered : List (Said Pair) → Type 0
+Numbered ps = Every (λ p. p .box ≤ 10) nobody ps
+
+kept-numbered : (k : ℕ) (keeps : List Keep) → Numbered (take k (sharePoints keeps))
 unfolding sharePoints
-shares-numbered a k keeps =
-    every-take (λ p. p .box ≤ 10) (nobody a) k _
-    (gather-numbered a (λ m. keptAt m (shareAt keeps m)) (λ m h. one m h (shareAt keeps m)))
+kept-numbered k keeps =
+    every-take (λ p. p .box ≤ 10) nobody k _
+    (every-gather-below (λ p. p .box ≤ 10) nobody (λ m. keptAt m (shareAt keeps m)) 10 (λ m h. one m h (shareAt keeps m)))
   where
-    one : (m : ℕ) → m < 10 → (kept : Kept) → Numbered a (keptAt m kept)
-    one m h Absent = none-numbered a
-    one m h (There s) = one-numbered a m h s
+    none : Numbered []
+    none = every-nil (λ p. p .box ≤ 10) nobody
+
+    one : (m : ℕ) → m < 10 → (kept : Kept) → Numbered (keptAt m kept)
+    one m h Absent = none
+    one m h (There s) = every-cons (λ p. p .box ≤ 10) nobody (record { box = m + 1; says = s }) [] (omega arith) none
+
+module _ (q k : ℕ) (big : 10 ≤ q) (small : k ≤ 8) where
+  -- The k lowest pairs kept: what the functions ask for, and the list that they say.
+  pub kept-fit : (keeps : List Keep) → Fit q (pointsOf (take k (sharePoints keeps)))
+  unfolding pointsOf
+  kept-fit keeps =
+      let ps = take k (sharePoints keeps) in
+      let few : length ps ≤ 8 = omega (arith, length-take k (sharePoints keeps)) in
+      record {
+        some = omega arith;
+        few = few;
+        low = λ j l.
+            let at = inArray-at 0 (λ (p : Said Pair). p .box) ps few j l ∙ List·getD-map (λ (p : Said Pair). p .box) ps j nobody in
+            omega (arith, kept-numbered k keeps j l);
+      }
+
+  pub kept-said : (keeps : List Keep) → saidBy (pointsOf (take k (sharePoints keeps))) ≡ take k (sharePoints keeps)
+  kept-said keeps = said-of _ (omega (arith, length-take k (sharePoints keeps)))
+
+  -- ---- both sides of places
+
+  module _ (places : List Place) where
+    pub side-fit : (a : Bool) → Fit q (pointsOf (sidePoints a (take k (points places))))
+    side-fit a = rw (← side-points a k places) (kept-fit (map (sideKept a) places))
+
+    side-said : (a : Bool) → saidBy (pointsOf (sidePoints a (take k (points places)))) ≡ sidePoints a (take k (points places))
+    side-said a = rw (← side-points a k places) (kept-said (map (sideKept a) places))
+
+    side-through : (a : Bool) (number : Pair → ℕ) (x : ℕ)
+        → through q (sidePoints a (take k (points places))) number x ≡ through q (take k (points places)) (λ f. number (side a f)) x
+    unfolding through sidePoints
+    side-through a number x = simp (length-map, map-map)
+
+    -- The polynomials through both sides are those of a ready.
+    pub pair-ready : pairThrough q (saidBy (pointsOf (sidePoints true (take k (points places))))) 0 ≡ pairFrom q (take k (points places))
+    unfolding pairThrough pairFrom
+    pair-ready = rw (side-said true, side-through true (λ s. s .first .0), side-through true (λ s. s .second .0))
+
+    pub four-ready : (x : ℕ)
+        → fourThrough q (saidBy (pointsOf (sidePoints true (take k (points places))))) (saidBy (pointsOf (sidePoints false (take k (points places))))) x
+        ≡ readyFour q (take k (points places)) x
+    unfolding fourThrough pairThrough readyFour
+    four-ready x =
+        rw (
+          side-said true,
+          side-said false,
+          side-through true (λ s. s .first .0),
+          side-through true (λ s. s .second .0),
+          side-through false (λ s. s .first .0),
+          side-through false (λ s. s .second .0),
+        )
+
+    pub sides-ready : (under : List Exponent) (rows columns : Points)
+        → rows ≡ pointsOf (sidePoints true (take k (points places))) → columns ≡ pointsOf (sidePoints false (take k (points places)))
+        → under ≡ inverseRow q (rows .count) (rows .boxes) → Sides q rows columns under
+    sides-ready under rows columns r c u =
+        let ps = take k (points places) in
+        record {
+          based = record { fit = rw r (side-fit true); inverses = u };
+          fit = rw c (side-fit false);
+          count = rw (r, c) (side-count false true ps);
+          boxes = rw (r, c) (side-boxes false true ps);
+        }

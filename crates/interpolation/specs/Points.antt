@@ -1,12 +1,14 @@
--- Points and shares as arrays with a count: one more of them, and the arrays of a list.
+-- Points as arrays with a count: the list that they say, the arrays of a list, one more point, and the sides of a sender's place.
 -- Assumes nothing.
-use mathlib.Core.List.{List, map}
+use mathlib.Core.Bool.{Bool, true, false}
+use mathlib.Core.List.{List, [], _∷_, map}
 use mathlib.Core.Path.{_≡_}
 use Prim.Native.Nat.{ℕ, _+_, _≤_, _<_}
 use native.Mathlib.Omega.{arith}
 use lib.Dec.{leb}
 use lib.ListN.{length, getD, set, replicate}
 use Rattle.folds.specs.Tests.{pick}
+use Rattle.folds.specs.Runs.{gather}
 use Rattle.folds.specs.Stores.{stores, getD-stores}
 use Rattle.rules.specs.declared.Four.{Four}
 use Rattle.rules.specs.declared.Keep.{Keep}
@@ -18,11 +20,20 @@ use Rattle.rules.specs.declared.Point.{Point}
 use Rattle.rules.specs.declared.Point.the-variants.{Silent, Held}
 use Rattle.rules.specs.Numbers.{exponent}
 use Rattle.rules.specs.Steps.{Said}
-use Rattle.interpolation.specs.declared.Points.{Points}
-use Rattle.interpolation.specs.declared.Shares.{Shares}
+use Rattle.interpolation.specs.declared.lagrange.Points.{Points}
 
 abbrev pub boxAt : List ℕ → ℕ → ℕ
 boxAt boxes j = getD boxes j 0
+
+-- what box and pair stand at i
+abbrev pub saidAt : Points → ℕ → Said Pair
+saidAt p i =
+    record { box = boxAt (p .boxes) i; says = record { first = getD (p .first) i (exponent 0); second = getD (p .second) i (exponent 0) } }
+
+unfoldable pub saidBy : Points → List (Said Pair)
+saidBy p = gather (p .count) (λ i. saidAt p i ∷ [])
+
+-- ---- the arrays of a list
 
 -- one thing of each of a list, in the first places of an array of 8
 unfoldable pub inArray : {A B : Type 0} → B → (A → B) → List A → List B
@@ -34,55 +45,19 @@ pub inArray-at : {A B : Type 0} (zero : B) (f : A → B) (l : List A) → length
 unfolding inArray
 inArray-at zero f l h i lt = getD-stores (λ i. getD (map f l) i zero) (replicate 8 zero) (length l) i zero lt (omega arith)
 
--- ---- points
-
-abbrev pub noPoints : Points
-noPoints =
-    record {
-      count = 0;
-      boxes = replicate 8 0;
-      alpha = replicate 8 (exponent 0);
-      alpha2 = replicate 8 (exponent 0);
-      beta = replicate 8 (exponent 0);
-      beta2 = replicate 8 (exponent 0);
-    }
-
-unfoldable pub withPoint : Points → ℕ → Four → Points
-withPoint p number f =
-    record {
-      count = p .count + 1;
-      boxes = set (p .boxes) (p .count) number;
-      alpha = set (p .alpha) (p .count) (f .alpha);
-      alpha2 = set (p .alpha2) (p .count) (f .alpha2);
-      beta = set (p .beta) (p .count) (f .beta);
-      beta2 = set (p .beta2) (p .count) (f .beta2);
-    }
-
-abbrev pub heldPoint : Points → ℕ → Point → Points
-heldPoint p number Silent = p
-heldPoint p number (Held f) = withPoint p number f
-
-unfoldable pub considered : ℕ → Points → ℕ → Place → Points
-considered k p number place = pick (leb k (p .count)) p (heldPoint p number (place .point))
-
-unfoldable pub pointsOf : List (Said Four) → Points
+unfoldable pub pointsOf : List (Said Pair) → Points
 pointsOf ps =
     record {
       count = length ps;
       boxes = inArray 0 (λ p. p .box) ps;
-      alpha = inArray (exponent 0) (λ p. p .says .alpha) ps;
-      alpha2 = inArray (exponent 0) (λ p. p .says .alpha2) ps;
-      beta = inArray (exponent 0) (λ p. p .says .beta) ps;
-      beta2 = inArray (exponent 0) (λ p. p .says .beta2) ps;
+      first = inArray (exponent 0) (λ p. p .says .first) ps;
+      second = inArray (exponent 0) (λ p. p .says .second) ps;
     }
 
--- ---- shares
+-- ---- one more point
 
-abbrev pub noShares : Shares
-noShares = record { count = 0; boxes = replicate 8 0; first = replicate 8 (exponent 0); second = replicate 8 (exponent 0) }
-
-unfoldable pub withShare : Shares → ℕ → Pair → Shares
-withShare p number s =
+unfoldable pub withPoint : Points → ℕ → Pair → Points
+withPoint p number s =
     record {
       count = p .count + 1;
       boxes = set (p .boxes) (p .count) number;
@@ -90,18 +65,29 @@ withShare p number s =
       second = set (p .second) (p .count) (s .second);
     }
 
-abbrev pub keptShare : Shares → ℕ → Kept → Shares
-keptShare p number Absent = p
-keptShare p number (There s) = withShare p number s
+abbrev pub keptPoint : Points → ℕ → Kept → Points
+keptPoint p number Absent = p
+keptPoint p number (There s) = withPoint p number s
 
-unfoldable pub consideredShare : ℕ → Shares → ℕ → Keep → Shares
-consideredShare k p number keep = pick (leb k (p .count)) p (keptShare p number (keep .kept))
+unfoldable pub considered : ℕ → Points → ℕ → Keep → Points
+considered k p number keep = pick (leb k (p .count)) p (keptPoint p number (keep .kept))
 
-unfoldable pub sharesOf : List (Said Pair) → Shares
-sharesOf ps =
-    record {
-      count = length ps;
-      boxes = inArray 0 (λ p. p .box) ps;
-      first = inArray (exponent 0) (λ p. p .says .first) ps;
-      second = inArray (exponent 0) (λ p. p .says .second) ps;
-    }
+-- ---- the sides of a sender's place
+
+-- "a and a' come from β, β', and b and b' from α, α'"
+abbrev pub side : Bool → Four → Pair
+side true f = record { first = f .beta; second = f .beta2 }
+side false f = record { first = f .alpha; second = f .alpha2 }
+
+abbrev pub sideHeld : Bool → Point → Kept
+sideHeld a Silent = Absent
+sideHeld a (Held f) = There (side a f)
+
+abbrev pub sideKept : Bool → Place → Keep
+sideKept a place = record { kept = sideHeld a (place .point) }
+
+abbrev pub sidePoint : Bool → Said Four → Said Pair
+sidePoint a p = record { box = p .box; says = side a (p .says) }
+
+unfoldable pub sidePoints : Bool → List (Said Four) → List (Said Pair)
+sidePoints a ps = map (sidePoint a) ps

@@ -3,6 +3,7 @@
 pub mod showing;
 
 use rules::Answer;
+use rules::Element;
 use rules::Pair;
 use rules::Sent;
 ghost use Prim.Native.Nat.{_≤_};
@@ -27,12 +28,34 @@ pub fn numbered(word: &[u8], x: usize) {
     number(x);
 }
 
-// A space before each number.
-fn pair(pair: Pair) {
+// ---- lists: `between` stands before every number but the first, which stands at 0
+
+pub fn listed(between: &[u8], at: usize, x: usize) {
+    if 0 < at {
+        words(between);
+    }
+    number(x);
+}
+
+pub fn pair(between: &[u8], pair: Pair) {
     let first = pair.first;
     let second = pair.second;
-    numbered(b" ", first.0 as usize);
-    numbered(b" ", second.0 as usize);
+    listed(between, 0, first.0 as usize);
+    listed(between, 1, second.0 as usize);
+}
+
+// The first k rows and columns.
+pub fn matrix(between: &[u8], k: usize, c: [[Element; 8]; 8]) {
+    let mut m: usize = 0;
+    while m < 64 {
+        let j = m / 8;
+        let l = m % 8;
+        let e = c[j][l];
+        if j < k && l < k {
+            listed(between, m, e.0 as usize);
+        }
+        m += 1;
+    }
 }
 
 // ---- the line of an answer
@@ -77,7 +100,8 @@ pub fn answer(a: Answer) {
     numbered(b" ", a.bytes);
     yes_or_no(a.completed);
     yes_or_no(a.recovered);
-    pair(recovered);
+    words(b" ");
+    pair(b" ", recovered);
     words(b"\n");
 }
 

@@ -2,7 +2,6 @@
 use crate::numbered;
 use crate::words;
 use rules::Completion;
-use rules::Element;
 use rules::Keep;
 use rules::Kept;
 use rules::Record;
@@ -22,29 +21,15 @@ fn set_up(u: SetUp) {
 
 // ---- places
 
-// The first k rows and columns.
-fn matrix(k: usize, c: [[Element; 8]; 8]) {
-    let mut m: usize = 0;
-    while m < 64 {
-        let j = m / 8;
-        let l = m % 8;
-        let e = c[j][l];
-        if j < k && l < k {
-            numbered(b" ", e.0 as usize);
-        }
-        m += 1;
-    }
-}
-
 fn place(k: usize, s: usize, slot: Slot) {
     let echoed = slot.echoed;
     let readied = slot.readied;
     let rows = slot.rows;
     numbered(b"place ", s);
-    numbered(b" e ", slots::count_marks(echoed) as usize);
-    numbered(b" r ", slots::count_marks(readied) as usize);
-    words(b" matrix");
-    matrix(k, slots::matrix_of(rows));
+    numbered(b" e ", record_reading::count_marks(echoed) as usize);
+    numbered(b" r ", record_reading::count_marks(readied) as usize);
+    words(b" matrix ");
+    crate::matrix(b" ", k, record_reading::matrix_of(rows));
     words(b"\n");
 }
 
@@ -68,23 +53,22 @@ fn kept_pair(word: &[u8], none: &[u8], keep: Keep) {
         Kept::Absent => words(none),
         Kept::There(pair) => {
             words(word);
-            crate::pair(pair);
+            crate::pair(b" ", pair);
         }
     }
     words(b"\n");
 }
 
-fn completion(x: Record) {
-    let progress = x.progress;
-    let completion = progress.completion;
-    match completion {
+// The pair is kept in the place of the completed matrix.
+fn completion(done: Completion, all: [Slot; 20]) {
+    match done {
         Completion::NotYet => words(b"not completed\n"),
         Completion::With(s) => {
             if s < 20 {
-                let slot = x.slots[s];
+                let slot = all[s];
                 let keep = slot.pair;
                 numbered(b"completed place ", s);
-                kept_pair(b" share", b" share none", keep);
+                kept_pair(b" share ", b" share none", keep);
             }
         }
     }
@@ -93,14 +77,14 @@ fn completion(x: Record) {
 // The senders of kept recovery shares, rising.
 fn shares(all: [Keep; 10]) {
     words(b"kept");
-    if slots::count_shares(all) == 0 {
+    if record_reading::count_shares(all) == 0 {
         words(b" none");
     }
     let mut m: usize = 0;
     while m < 10 {
         let keep = all[m];
         m += 1;
-        if slots::is_there(keep) {
+        if record_reading::is_there(keep) {
             numbered(b" ", m);
         }
     }
@@ -117,9 +101,11 @@ pub fn show(x: Record) {
     let all = x.slots;
     let kept = x.shares;
     let recovered = x.recovered;
+    let progress = x.progress;
+    let done = progress.completion;
     set_up(u);
     places(u.k as usize, all);
-    completion(x);
+    completion(done, all);
     shares(kept);
-    kept_pair(b"recovered", b"not recovered", recovered);
+    kept_pair(b"recovered ", b"not recovered", recovered);
 }

@@ -50,7 +50,7 @@ fn short(number: usize) -> u16 {
 
 // ---- the parts of a record
 
-fn set_up(change: Change) -> SetUp {
+pub fn set_up(change: Change) -> SetUp {
     let numbers = change.numbers;
     SetUp {
         group: narrow(numbers[0]),

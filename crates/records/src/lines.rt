@@ -13,9 +13,9 @@ fn number_of(o: Outcome) {
 // With this buffer. Sender 0, so that a sound record gets 1; secret 0 with no coins; a command.
 pub fn offered(x: Record, out: &mut [u8]) {
     let coins = [0u16; 1];
-    number_of(station::deliver(x, 0, b"", out));
-    number_of(station::deal(x, 0, &coins[..0], out));
-    number_of(station::command_recovery(x, out));
+    number_of(box_calls::deliver(x, 0, b"", out));
+    number_of(box_calls::deal(x, 0, &coins[..0], out));
+    number_of(box_calls::command_recovery(x, out));
     printing::words(b"\n");
 }
 
@@ -35,12 +35,11 @@ fn line(text: &[u8]) {
 pub fn lines(text: &[u8]) {
     let mut at: usize = 0;
     while at < text.len() {
-        let end = saying::behind(text, at, b'\n');
-        let behind = saying::behind(text, at, b':');
-        if behind < end {
-            printing::words(&text[at..behind]);
-            line(&text[behind..end]);
-        }
+        let found = saying::line_at(text, at);
+        let behind = found.behind;
+        let end = found.end;
+        printing::words(&text[at..behind]);
+        line(&text[behind..end]);
         at = end;
     }
 }

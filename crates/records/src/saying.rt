@@ -1,6 +1,7 @@
 // How a text says a change: a word and its numbers. Words are told apart by their first letter.
 ghost use Prim.Native.Nat.{_≤_, _<_};
 ghost use lib.ListN.{length};
+ghost use Rattle.records.specs.Lies.{Lies};
 
 // `count` numbers stand behind the word, seven at most; the rest are 0.
 pub struct Change {
@@ -23,6 +24,23 @@ pub fn behind(text: &[u8], from: usize, c: u8) -> usize
         }
     }
     at
+}
+
+// A line: what stands behind its name, and behind the line.
+pub struct Line {
+    pub behind: usize,
+    pub end: usize,
+}
+
+// Lines `NAME: CHANGE, CHANGE ..`; behind a line with no name nothing stands.
+pub fn line_at(text: &[u8], at: usize) -> Line
+    requires { ⌜ at < length (now text) ⌝ }
+    ensures { λ r. ⌜ Lies at (r .behind) (r .end) (length (now (text .entry))) ⌝ }
+{
+    let end = behind(text, at, b'\n');
+    let colon = behind(text, at, b':');
+    let from = if colon < end { colon } else { end };
+    Line { behind: from, end }
 }
 
 // The place of a number among `many`, for numbers from `lowest` on; of one out of range, the first.

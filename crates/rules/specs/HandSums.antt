@@ -13,13 +13,14 @@ use Rattle.rules.specs.declared.Group.{Group}
 use Rattle.rules.specs.declared.Pair.{Pair}
 use Rattle.rules.specs.declared.Polynomials.{Polynomials}
 use Rattle.rules.specs.declared.SetUp.{SetUp}
+use Rattle.rules.specs.declared.Side.the-variants.{ByEcho}
 use Rattle.rules.specs.declared.Slot.{Slot}
 use Rattle.rules.specs.Numbers.{exponent, element, groupOf, echoQuorum}
 use Rattle.rules.specs.Matrices.{matrix, entry, α}
 use Rattle.rules.specs.Messages.{send, bytesOf}
 use Rattle.rules.specs.Dealing.{fOf, f′Of, committed, commitment, polynomialsOf, valueAt, pointCheck, shareCheck}
 use Rattle.rules.specs.Record.{nothing, newRecord, zeroSlot}
-use Rattle.rules.specs.Steps.{withShares, sharePoints, through, pairFrom, recoveredFrom, lowest, opened, echoed, sharing}
+use Rattle.rules.specs.Steps.{withShares, sharePoints, through, pairFrom, recoveredFrom, lowest, opened, taken, sharing}
 use Rattle.rules.specs.Answers.{setUp}
 use Rattle.rules.specs.Computed.{computed}
 
@@ -47,17 +48,17 @@ abbrev matching : List ℕ
 matching = 2 ∷ 1 ∷ 5 ∷ 5 ∷ 2 ∷ 3 ∷ 2 ∷ []
 
 abbrev pub C : ℕ → List ℕ → List (List Element)
-C secret coins = commitment G 2 (fOf 2 secret coins) (f′Of 2 secret coins)
+C secret coins = commitment G 2 (fOf class secret coins) (f′Of class secret coins)
 
 abbrev pub dealt : ℕ → List ℕ → ℕ → Polynomials
-dealt secret coins i = polynomialsOf 11 2 (fOf 2 secret coins) (f′Of 2 secret coins) i
+dealt secret coins i = polynomialsOf 11 2 (fOf class secret coins) (f′Of class secret coins) i
 
 abbrev pub share : ℕ → Pair
 share i = pair (valueAt 11 2 (dealt 5 coins i .a) 0) (valueAt 11 2 (dealt 5 coins i .a2) 0)
 
 -- the slot of box 1 once it holds the points of boxes 2 and 3
 abbrev twoHeld : Slot
-twoHeld = echoed (echoed (opened (C 5 coins) zeroSlot) 1 (four 9 6 10 5)) 2 (four 4 0 6 9)
+twoHeld = taken ByEcho (taken ByEcho (opened (C 5 coins) zeroSlot) 1 (four 9 6 10 5)) 2 (four 4 0 6 9)
 
 -- what the shares of box 1 and of one more box recover
 abbrev recovers : Pair → ℕ → Pair → Pair
@@ -85,7 +86,7 @@ pub record HandSums : Type 0 where
   -- E for (n, t, k): (4, 1, 2) 3; (7, 2, 3) 5; (10, 1, 8) 8
   pub P10 : (echoQuorum (sized 4 1 2) ≡ 3) × (echoQuorum (sized 7 2 3) ≡ 5) × (echoQuorum (sized 10 1 8) ≡ 8)
   -- (5, 1, 3) and (10, 1, 8) are taken
-  pub taken : (setUp (sized 5 1 3) .answer .no ≡ 0) × (setUp (sized 10 1 8) .answer .no ≡ 0)
+  pub accepted : (setUp (sized 5 1 3) .answer .no ≡ 0) × (setUp (sized 10 1 8) .answer .no ≡ 0)
   -- (4, 1, 3), (4, 0, 2), (11, 1, 2) get 12
   pub get-12 : (setUp (sized 4 1 3) .answer .no ≡ 12) × (setUp (sized 4 0 2) .answer .no ≡ 12) × (setUp (sized 11 1 2) .answer .no ≡ 12)
 
@@ -103,6 +104,6 @@ hand-sums =
       P8 = (refl, refl, refl);
       P9 = (refl, refl);
       P10 = (refl, refl, refl);
-      taken = (refl, refl);
+      accepted = (refl, refl);
       get-12 = (refl, refl, refl);
     }

@@ -15,6 +15,8 @@ use Rattle.rules.specs.declared.Four.{Four}
 use Rattle.rules.specs.declared.Pair.{Pair}
 use Rattle.rules.specs.declared.Polynomials.{Polynomials}
 use Rattle.rules.specs.declared.SetUp.{SetUp}
+use Rattle.rules.specs.declared.Side.{Side}
+use Rattle.rules.specs.declared.Side.the-variants.{ByEcho, ByReady}
 use Rattle.rules.specs.Numbers.{exponent, element}
 use Rattle.rules.specs.Matrices.{row, matrix, entry, coefficient, α, α′, β, β′}
 
@@ -24,6 +26,15 @@ pub data Message : Type 0 where
   echo : List (List Element) → Four → Message
   ready : List (List Element) → Four → Message
   recovery : Pair → Message
+
+-- an echo or a ready, and its tag
+abbrev pub saying : Side → List (List Element) → Four → Message
+saying ByEcho C f = echo C f
+saying ByReady C f = ready C f
+
+abbrev pub sideTag : Side → ℕ
+sideTag ByEcho = 2
+sideTag ByReady = 3
 
 -- ---- writing
 
@@ -39,8 +50,9 @@ matrixBytes k C = gather k (λ j. gather k (λ l. twoBytes (entry C j l)))
 unfoldable pub coefficientBytes : ℕ → List Exponent → List ℕ
 coefficientBytes k a = gather k (λ l. twoBytes (coefficient a l))
 
-unfoldable pub polynomialBytes : ℕ → Polynomials → List ℕ
-polynomialBytes k P = coefficientBytes k (P .a) ++ coefficientBytes k (P .a2) ++ coefficientBytes k (P .b) ++ coefficientBytes k (P .b2)
+unfoldable pub polynomialBytes : SetUp → Polynomials → List ℕ
+polynomialBytes u P =
+    coefficientBytes (u .k) (P .a) ++ coefficientBytes (u .k) (P .a2) ++ coefficientBytes (u .k) (P .b) ++ coefficientBytes (u .k) (P .b2)
 
 -- "An echo or ready ends with α, α', β, β'."
 unfoldable pub fourBytes : Four → List ℕ
@@ -58,11 +70,11 @@ tagOf (ready C f) = 3
 tagOf (recovery s) = 4
 
 -- "Tags 1 send, 2 echo, 3 ready go on with k (1) and the matrix"; a recovery share "has no k and no matrix"
-unfoldable pub bodyOf : ℕ → Message → List ℕ
-bodyOf k (send C P) = k ∷ matrixBytes k C ++ polynomialBytes k P
-bodyOf k (echo C f) = k ∷ matrixBytes k C ++ fourBytes f
-bodyOf k (ready C f) = k ∷ matrixBytes k C ++ fourBytes f
-bodyOf k (recovery s) = pairBytes s
+unfoldable pub bodyOf : SetUp → Message → List ℕ
+bodyOf u (send C P) = u .k ∷ matrixBytes (u .k) C ++ polynomialBytes u P
+bodyOf u (echo C f) = u .k ∷ matrixBytes (u .k) C ++ fourBytes f
+bodyOf u (ready C f) = u .k ∷ matrixBytes (u .k) C ++ fourBytes f
+bodyOf u (recovery s) = pairBytes s
 
 -- "Header: tag (1 byte), size of the rest (2 bytes)."
 unfoldable pub framed : ℕ → List ℕ → List ℕ
@@ -70,15 +82,16 @@ framed tag rest = tag ∷ twoBytes (length rest) ++ rest
 
 -- "Then dealer (1), session (2)."
 unfoldable pub bytesOf : SetUp → Message → List ℕ
-bytesOf s m = framed (tagOf m) (s .d ∷ twoBytes (s .session) ++ bodyOf (s .k) m)
+bytesOf u m = framed (tagOf m) (u .d ∷ twoBytes (u .session) ++ bodyOf u m)
 
 -- "Whole lengths: send 7 + 2k² + 8k; echo and ready 15 + 2k²; recovery share 10."
-unfoldable pub wholeLength : ℕ → ℕ → ℕ
-wholeLength tag k = pick (eqb tag 1) (7 + 2 * (k * k) + 8 * k) (pick (eqb tag 4) 10 (15 + 2 * (k * k)))
+unfoldable pub wholeLength : SetUp → ℕ → ℕ
+wholeLength u tag =
+    pick (eqb tag 1) (7 + 2 * (u .k * u .k) + 8 * u .k) (pick (eqb tag 4) 10 (15 + 2 * (u .k * u .k)))
 
 -- "A call that sends writes n messages, to box 1 first, each directly behind the one before"
 unfoldable pub toEach : SetUp → (ℕ → Message) → List ℕ
-toEach s f = gather (s .n) (λ j. bytesOf s (f (j + 1)))
+toEach u f = gather (u .n) (λ j. bytesOf u (f (j + 1)))
 
 -- "Bytes behind the last keep their values."
 unfoldable pub written : List ℕ → List ℕ → List ℕ
@@ -98,48 +111,52 @@ hasMatrix tag = leb tag 3
 
 -- refusal 2: "shorter than 3 bytes, tag not 1..4, size field not the bytes that follow,
 -- whole length not that of the tag at this k, or k byte not k"
-unfoldable pub malformed : ℕ → List ℕ → Bool
-malformed k s =
+unfoldable pub malformed : SetUp → List ℕ → Bool
+malformed u s =
     ltb (length s) 3
     or not (leb 1 (tagIn s) and leb (tagIn s) 4)
     or not (eqb (word s 1) (length s - 3))
-    or not (eqb (length s) (wholeLength (tagIn s) k))
-    or hasMatrix (tagIn s) and not (eqb (getD s 6 0) k)
+    or not (eqb (length s) (wholeLength u (tagIn s)))
+    or hasMatrix (tagIn s) and not (eqb (getD s 6 0) (u .k))
 
 -- refusal 3: "dealer or session is another"
 unfoldable pub foreign : SetUp → List ℕ → Bool
 foreign u s = not (eqb (getD s 3 0) (u .d)) or not (eqb (word s 4) (u .session))
 
 -- what stands where in a message that is not malformed
-unfoldable pub matrixIn : ℕ → List ℕ → List (List Element)
-matrixIn k s = matrix k (element 0) (λ j l. element (word s (7 + 2 * (j * k + l))))
+unfoldable pub matrixIn : SetUp → List ℕ → List (List Element)
+matrixIn u s = matrix (u .k) (element 0) (λ j l. element (word s (7 + 2 * (j * u .k + l))))
 
 unfoldable pub coefficientsIn : ℕ → List ℕ → ℕ → List Exponent
 coefficientsIn k s p = row k (exponent 0) (λ l. exponent (word s (p + 2 * l)))
 
-unfoldable pub polynomialsIn : ℕ → List ℕ → Polynomials
-polynomialsIn k s =
+-- where what a send, an echo or a ready ends with begins: behind the header, k and the matrix
+abbrev pub endPlace : SetUp → ℕ
+endPlace u = 7 + 2 * (u .k * u .k)
+
+unfoldable pub polynomialsIn : SetUp → List ℕ → Polynomials
+polynomialsIn u s =
     record {
-      a = coefficientsIn k s (7 + 2 * (k * k));
-      a2 = coefficientsIn k s (7 + 2 * (k * k) + 2 * k);
-      b = coefficientsIn k s (7 + 2 * (k * k) + 4 * k);
-      b2 = coefficientsIn k s (7 + 2 * (k * k) + 6 * k);
+      a = coefficientsIn (u .k) s (endPlace u);
+      a2 = coefficientsIn (u .k) s (endPlace u + 2 * u .k);
+      b = coefficientsIn (u .k) s (endPlace u + 4 * u .k);
+      b2 = coefficientsIn (u .k) s (endPlace u + 6 * u .k);
     }
 
-unfoldable pub fourIn : ℕ → List ℕ → Four
-fourIn k s =
+unfoldable pub fourIn : SetUp → List ℕ → Four
+fourIn u s =
     record {
-      alpha = exponent (word s (7 + 2 * (k * k)));
-      alpha2 = exponent (word s (9 + 2 * (k * k)));
-      beta = exponent (word s (11 + 2 * (k * k)));
-      beta2 = exponent (word s (13 + 2 * (k * k)));
+      alpha = exponent (word s (endPlace u));
+      alpha2 = exponent (word s (endPlace u + 2));
+      beta = exponent (word s (endPlace u + 4));
+      beta2 = exponent (word s (endPlace u + 6));
     }
 
 unfoldable pub pairIn : List ℕ → Pair
 pairIn s = record { first = exponent (word s 6); second = exponent (word s 8) }
 
-unfoldable pub messageIn : ℕ → List ℕ → Message
-messageIn k s =
-    pick (eqb (tagIn s) 1) (send (matrixIn k s) (polynomialsIn k s))
-    (pick (eqb (tagIn s) 2) (echo (matrixIn k s) (fourIn k s))
-    (pick (eqb (tagIn s) 3) (ready (matrixIn k s) (fourIn k s)) (recovery (pairIn s))))
+unfoldable pub messageIn : SetUp → List ℕ → Message
+messageIn u s =
+    pick (eqb (tagIn s) 1) (send (matrixIn u s) (polynomialsIn u s))
+    (pick (eqb (tagIn s) 2) (echo (matrixIn u s) (fourIn u s))
+    (pick (eqb (tagIn s) 3) (ready (matrixIn u s) (fourIn u s)) (recovery (pairIn s))))

@@ -29,6 +29,8 @@ use Rattle.rules.specs.declared.Completion.the-variants.{NotYet, With}
 use Rattle.rules.specs.declared.Progress.{Progress}
 use Rattle.rules.specs.declared.Record.{Record}
 use Rattle.rules.specs.declared.SetUp.{SetUp}
+use Rattle.rules.specs.declared.Side.{Side}
+use Rattle.rules.specs.declared.Side.the-variants.{ByEcho, ByReady}
 use Rattle.rules.specs.declared.Sent.{Sent}
 use Rattle.rules.specs.declared.Sent.the-variants.{Nothing, Send, Echo, Ready, Recovery}
 use Rattle.rules.specs.Numbers.{exponent, echoQuorum}
@@ -66,12 +68,12 @@ pub record Said (A : Type 0) : Type 0 where
   pub says : A
 
 -- the points that places hold, lowest box first: a silent place adds none
-abbrev pub pointAt : ℕ → Point → List (Said Four)
-pointAt m Silent = []
-pointAt m (Held f) = record { box = m + 1; says = f } ∷ []
+abbrev pub heldAt : ℕ → Point → List (Said Four)
+heldAt m Silent = []
+heldAt m (Held f) = record { box = m + 1; says = f } ∷ []
 
 unfoldable pub points : List Place → List (Said Four)
-points places = gather 10 (λ m. pointAt m (getD places m silent .point))
+points places = gather 10 (λ m. heldAt m (getD places m silent .point))
 
 -- the recovery shares kept, lowest box first
 abbrev pub keptAt : ℕ → Kept → List (Said Pair)
@@ -151,25 +153,22 @@ firstPoint (Held g) f = Held g
 abbrev pub holding : Slot → ℕ → Four → List Place
 holding slot m f = set (slot .places) m (record { point = firstPoint (placeAt slot m .point) f })
 
-unfoldable pub echoed : Slot → ℕ → Four → Slot
-echoed slot m f =
-    record {
-      used = slot .used;
-      rows = slot .rows;
-      places = holding slot m f;
-      echoed = mark (slot .echoed) m;
-      readied = slot .readied;
-      pair = slot .pair;
-    }
+-- the marks of a side, where a message of side b is taken
+abbrev pub hit : Side → Side → Marks → ℕ → Marks
+hit ByEcho ByEcho ms m = mark ms m
+hit ByEcho ByReady ms m = ms
+hit ByReady ByEcho ms m = ms
+hit ByReady ByReady ms m = mark ms m
 
-unfoldable pub readied : Slot → ℕ → Four → Slot
-readied slot m f =
+-- "its count e for this C goes up by one", "r for this C goes up by one"
+abbrev pub taken : Side → Slot → ℕ → Four → Slot
+taken b slot m f =
     record {
       used = slot .used;
       rows = slot .rows;
       places = holding slot m f;
-      echoed = slot .echoed;
-      readied = mark (slot .readied) m;
+      echoed = hit ByEcho b (slot .echoed) m;
+      readied = hit ByReady b (slot .readied) m;
       pair = slot .pair;
     }
 
@@ -218,16 +217,6 @@ readySent x s slot ps =
 abbrev pub lowest : Record → Slot → List (Said Four)
 lowest x slot = take (x .setup .k) (points (slot .places))
 
--- "Echo, checked: its count e for this C goes up by one. If now e = E and r < k, interpolate and send ready."
-unfoldable pub echoAt : Record → ℕ → Slot → Step
-echoAt x s slot =
-    pick (eqb (countE slot) (echoQuorum (x .setup)) and ltb (countR slot) (x .setup .k))
-    (readySent x s slot (lowest x slot))
-    (quiet (withSlot x s slot))
-
-unfoldable pub echoStep : Record → ℕ → List (List Element) → Four → Step
-echoStep x m C f = echoAt x (slotFor x C) (echoed (opened C (slotAt x (slotFor x C))) m f)
-
 -- "complete with this C .. Only the first completion counts"
 abbrev pub firstCompletion : Completion → ℕ → Completion
 firstCompletion NotYet s = With s
@@ -246,18 +235,26 @@ unfoldable pub completed : Record → ℕ → Step
 completed x s =
     record { after = completing x s; sent = Nothing; bytes = []; completed = not (isDone (x .progress .completion)); recovered = Absent }
 
--- "Ready, checked: r for this C goes up by one. If now r = k and e < E, interpolate and send ready; else if r = k + t,
--- complete with this C and share (a(0), a'(0)), taken from the polynomials interpolated when this box sent ready for this C."
-unfoldable pub readyAt : Record → ℕ → Slot → Step
-readyAt x s slot =
-    pick (eqb (countR slot) (x .setup .k) and ltb (countE slot) (echoQuorum (x .setup)))
-    (readySent x s slot (lowest x slot))
-    (pick (eqb (countR slot) (x .setup .k + x .setup .t))
-    (completed (withSlot x s slot) s)
-    (quiet (withSlot x s slot)))
+-- "Echo, checked: its count e for this C goes up by one. If now e = E and r < k, interpolate and send ready."
+-- "Ready, checked: r for this C goes up by one. If now r = k and e < E, interpolate and send ready;
+abbrev pub readyDue : SetUp → Side → Slot → Bool
+readyDue u ByEcho slot = eqb (countE slot) (echoQuorum u) and ltb (countR slot) (u .k)
+readyDue u ByReady slot = eqb (countR slot) (u .k) and ltb (countE slot) (echoQuorum u)
 
-unfoldable pub readyStep : Record → ℕ → List (List Element) → Four → Step
-readyStep x m C f = readyAt x (slotFor x C) (readied (opened C (slotAt x (slotFor x C))) m f)
+-- else if r = k + t, complete with this C and share (a(0), a'(0)), taken from the polynomials interpolated when this box sent
+-- ready for this C."
+abbrev pub completionDue : SetUp → Side → Slot → Bool
+completionDue u ByEcho slot = false
+completionDue u ByReady slot = eqb (countR slot) (u .k + u .t)
+
+unfoldable pub pointAt : Side → Record → ℕ → Slot → Step
+pointAt b x s slot =
+    pick (readyDue (x .setup) b slot) (readySent x s slot (lowest x slot))
+    (pick (completionDue (x .setup) b slot) (completed (withSlot x s slot) s) (quiet (withSlot x s slot)))
+
+-- a checked echo or ready of sender m + 1
+unfoldable pub pointStep : Side → Record → ℕ → List (List Element) → Four → Step
+pointStep b x m C f = pointAt b x (slotFor x C) (taken b (opened C (slotAt x (slotFor x C))) m f)
 
 -- "Each checked recovery share from a new box is kept. At the k-th, give the pair interpolated at 0."
 abbrev pub sharing : Record → ℕ → Pair → List Keep
@@ -281,8 +278,8 @@ shareStep x m s = recovering x (sharing x m s)
 -- a checked message of sender m + 1, which is heard for its tag
 abbrev pub messageStep : Record → ℕ → Message → Step
 messageStep x m (send C P) = sendStep (heard x 1 m) C P
-messageStep x m (echo C f) = echoStep (heard x 2 m) m C f
-messageStep x m (ready C f) = readyStep (heard x 3 m) m C f
+messageStep x m (echo C f) = pointStep ByEcho (heard x 2 m) m C f
+messageStep x m (ready C f) = pointStep ByReady (heard x 3 m) m C f
 messageStep x m (recovery s) = shareStep (heard x 4 m) m s
 
 -- the deal: a send to each box
@@ -292,8 +289,8 @@ dealStep x secret coins =
     (withProgress x (record { dealt = true; completion = x .progress .completion; commanded = x .progress .commanded }))
     Send
     (toEach (x .setup) (λ j. send
-    (commitment (groupIn x) (x .setup .k) (fOf (x .setup .k) secret coins) (f′Of (x .setup .k) secret coins))
-    (polynomialsOf (groupIn x .q) (x .setup .k) (fOf (x .setup .k) secret coins) (f′Of (x .setup .k) secret coins) j)))
+    (commitment (groupIn x) (x .setup .k) (fOf (x .setup) secret coins) (f′Of (x .setup) secret coins))
+    (polynomialsOf (groupIn x .q) (x .setup .k) (fOf (x .setup) secret coins) (f′Of (x .setup) secret coins) j)))
 
 -- "Recovery command: send the share to each j."
 abbrev pub completedShare : Record → Completion → Kept

@@ -3,6 +3,7 @@ ghost use mathlib.Core.Path.{_≡_};
 ghost use Prim.Native.Nat.{_<_, _≤_};
 ghost use lib.ListN.{getD};
 ghost use Rattle.rules.specs.Numbers.{groups, noGroup, echoQuorum};
+ghost use Rattle.rules.specs.Messages.{sideTag};
 
 // ---- Numbers
 
@@ -130,6 +131,23 @@ pub struct Keep {
 // A row of a matrix; the first k entries are in use.
 pub struct Row {
     pub at: [Element; 8],
+}
+
+// The two messages that carry a point, and count: an echo in e, a ready in r.
+pub enum Side {
+    ByEcho,
+    ByReady,
+}
+
+impl Side {
+    pub fn tag(self) -> u8
+        ensures { λ r. ⌜ r ≡ sideTag self ⌝ }
+    {
+        match self {
+            Side::ByEcho => 2,
+            Side::ByReady => 3,
+        }
+    }
 }
 
 // A mark for each box; box 1 stands at 0.

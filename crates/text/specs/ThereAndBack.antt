@@ -15,9 +15,8 @@ use Rattle.folds.specs.Tests.{_and_, _or_, pick, and-intro, and-false, or-left,
 use Rattle.folds.specs.Below.{allBelow-all, firstFrom-here, firstFrom-skip}
 use Rattle.folds.specs.Runs.{gather, gather-same, length-gather-le, Stands, stands-right, stands-left, stands-piece, stands-reads, Every, every-nil, every-cons, every-append, every-gather}
 use Rattle.rules.specs.Text.{byteAt, digitAt, digitsEnd, digitsSay, decimalAt, digitOf, decimal}
-use Rattle.text.specs.Decimals.{decimalIn}
-use Rattle.text.specs.Hexadecimal.{isHexDigit, hexDigit, hexAt, hexBytes, glyph, hexOf}
-use Rattle.text.specs.Laws.{pieceOf, power-positive, byteSaid, digitsOf, hexStands, digitsSay-more, decimal-some, hex-there, tests-decimal}
+use Rattle.text.specs.Decimals.{decimalIn, between, true-between, digitsSay-more, tests-decimal, decimal-some, pieceOf, power-positive}
+use Rattle.text.specs.Hexadecimal.{isHexDigit, hexDigit, hexAt, hexSaid, hexBytes, glyph, hexPair, hexOf, hexStands, hex-there}
 
 -- ---- a decimal
 
@@ -70,39 +69,49 @@ join-digit s y e =
     let z : 48 + y % 10 - 48 ≡ y % 10 = omega arith in
     ap₂ (λ (a b : ℕ). a * 10 + b) e z ∙ div-add-mod' y 10
 
+-- what stands before the last digit: what is put for the j highest powers
+abbrev front : ℕ → ℕ → List ℕ
+front x j = gather j (pieceOf x)
+
+-- nothing is put for the highest powers, or what is put starts with no zero
+abbrev Leads : ℕ → ℕ → List ℕ → Type 0
+Leads x j l = ((l ≡ []) × (x < 10 ^ (5 - j))) ⊎ ((0 < length l) × (48 < getD l 0 0))
+
+-- more behind it changes nothing
+still : (l r : List ℕ) → (0 < length l) × (48 < getD l 0 0) → (0 < length (l ++ r)) × (48 < getD (l ++ r) 0 0)
+still l r w = (omega (arith, w .0, length-append l r), rw (List·getD-append l r 0 0 (w .0)) (w .1))
+
 module _ (x : ℕ) (small : x < 100000) where
   -- the next higher power of ten
   power-above : (j : ℕ) → j < 4 → 10 ^ (5 - j) ≡ 10 ^ (4 - j) * 10
   power-above j l = let e : 5 - j ≡ suc (4 - j) = omega arith in ap (λ (n : ℕ). 10 ^ n) e ∙ pow-suc 10 (4 - j)
 
-  said-pieces : (j : ℕ) → j ≤ 4 → said (gather j (pieceOf x)) ≡ x / 10 ^ (5 - j)
+  said-front : (j : ℕ) → j ≤ 4 → said (front x j) ≡ x / 10 ^ (5 - j)
   unfolding gather digitsSay
-  said-pieces zero l = sym (div-eq-of-lt {n = x} {m = 100000} small)
-  said-pieces (suc j) l = go (tenth (said-pieces j (omega arith))) (ltb x (10 ^ (4 - j))) refl ∙ ap (λ (n : ℕ). x / 10 ^ n) (let e : 4 - j ≡ 5 - suc j = omega arith in e)
+  said-front zero l = sym (div-eq-of-lt {n = x} {m = 100000} small)
+  said-front (suc j) l = go (tenth (said-front j (omega arith))) (ltb x (10 ^ (4 - j))) refl ∙ ap (λ (n : ℕ). x / 10 ^ n) (let e : 4 - j ≡ 5 - suc j = omega arith in e)
     where
-      tenth : said (gather j (pieceOf x)) ≡ x / 10 ^ (5 - j) → said (gather j (pieceOf x)) ≡ x / 10 ^ (4 - j) / 10
+      tenth : said (front x j) ≡ x / 10 ^ (5 - j) → said (front x j) ≡ x / 10 ^ (4 - j) / 10
       tenth ih =
           ih
           ∙ ap (λ (n : ℕ). x / n) (power-above j (omega arith))
           ∙ sym (div-div-eq-div-mul x (10 ^ (4 - j)) 10)
 
-      go : said (gather j (pieceOf x)) ≡ x / 10 ^ (4 - j) / 10 → (b : Bool) → ltb x (10 ^ (4 - j)) ≡ b
-          → said (gather j (pieceOf x) ++ pick b [] (digitOf x (10 ^ (4 - j)) ∷ [])) ≡ x / 10 ^ (4 - j)
+      go : said (front x j) ≡ x / 10 ^ (4 - j) / 10 → (b : Bool) → ltb x (10 ^ (4 - j)) ≡ b
+          → said (front x j ++ pick b [] (digitOf x (10 ^ (4 - j)) ∷ [])) ≡ x / 10 ^ (4 - j)
       go t true e =
           let none : x / 10 ^ (4 - j) ≡ 0 = div-eq-of-lt (ltb-true x (10 ^ (4 - j)) e) in
-          ap said (append-nil (gather j (pieceOf x))) ∙ t ∙ ap (λ (n : ℕ). n / 10) none ∙ zero-div 10 ∙ sym none
-      go t false e = said-more (gather j (pieceOf x)) (digitOf x (10 ^ (4 - j))) ∙ join-digit _ (x / 10 ^ (4 - j)) t
+          ap said (append-nil (front x j)) ∙ t ∙ ap (λ (n : ℕ). n / 10) none ∙ zero-div 10 ∙ sym none
+      go t false e = said-more (front x j) (digitOf x (10 ^ (4 - j))) ∙ join-digit _ (x / 10 ^ (4 - j)) t
 
   decimal-says : said (decimal x) ≡ x
   unfolding decimal
   decimal-says =
-      said-more (gather 4 (pieceOf x)) (digitOf x 1)
-      ∙ join-digit _ (x / 1) (said-pieces 4 (omega arith) ∙ ap (λ (n : ℕ). n / 10) (sym (div-one x)))
+      said-more (front x 4) (digitOf x 1)
+      ∙ join-digit _ (x / 1) (said-front 4 (omega arith) ∙ ap (λ (n : ℕ). n / 10) (sym (div-one x)))
       ∙ div-one x
 
-  -- nothing is put for the highest powers, or what is put starts with no zero
-  leads : (j : ℕ) → j ≤ 4
-      → ((gather j (pieceOf x) ≡ []) × (x < 10 ^ (5 - j))) ⊎ ((0 < length (gather j (pieceOf x))) × (48 < getD (gather j (pieceOf x)) 0 0))
+  leads : (j : ℕ) → j ≤ 4 → Leads x j (front x j)
   unfolding gather
   leads zero l = inl (refl, small)
   leads (suc j) l = go (ltb x (10 ^ (4 - j))) refl (leads j (omega arith))
@@ -110,10 +119,7 @@ module _ (x : ℕ) (small : x < 100000) where
       same : 5 - suc j ≡ 4 - j
       same = omega arith
 
-      go : (b : Bool) → ltb x (10 ^ (4 - j)) ≡ b
-          → ((gather j (pieceOf x) ≡ []) × (x < 10 ^ (5 - j))) ⊎ ((0 < length (gather j (pieceOf x))) × (48 < getD (gather j (pieceOf x)) 0 0))
-          → ((gather j (pieceOf x) ++ pick b [] (digitOf x (10 ^ (4 - j)) ∷ []) ≡ []) × (x < 10 ^ (5 - suc j)))
-          ⊎ ((0 < length (gather j (pieceOf x) ++ pick b [] (digitOf x (10 ^ (4 - j)) ∷ []))) × (48 < getD (gather j (pieceOf x) ++ pick b [] (digitOf x (10 ^ (4 - j)) ∷ [])) 0 0))
+      go : (b : Bool) → ltb x (10 ^ (4 - j)) ≡ b → Leads x j (front x j) → Leads x (suc j) (front x j ++ pick b [] (digitOf x (10 ^ (4 - j)) ∷ []))
       go true e (inl w) = inl (ap (λ (t : List ℕ). t ++ []) (w .0), rw same (ltb-true x (10 ^ (4 - j)) e))
       go false e (inl w) =
           let p = 10 ^ (4 - j) in
@@ -124,18 +130,15 @@ module _ (x : ℕ) (small : x < 100000) where
           let ten : x / p < 10 = div-lt-iff-lt-mul {k = p} {x = x} {y = 10} positive .1 below in
           let digit : x / p % 10 ≡ x / p = mod-eq-of-lt ten in
           inr (rw (w .0) (omega arith, omega arith))
-      go b e (inr w) =
-          let more = length-append (gather j (pieceOf x)) (pick b [] (digitOf x (10 ^ (4 - j)) ∷ [])) in
-          inr (let z = w .0 in omega arith, rw (List·getD-append (gather j (pieceOf x)) (pick b [] (digitOf x (10 ^ (4 - j)) ∷ [])) 0 0 (w .0)) (w .1))
+      go b e (inr w) = inr (still (front x j) (pick b [] (digitOf x (10 ^ (4 - j)) ∷ [])) w)
 
   leads-plain : (length (decimal x) ≡ 1) ⊎ (48 < getD (decimal x) 0 0)
   unfolding decimal
   leads-plain = go (leads 4 (omega arith))
     where
-      go : ((gather 4 (pieceOf x) ≡ []) × (x < 10 ^ (5 - 4))) ⊎ ((0 < length (gather 4 (pieceOf x))) × (48 < getD (gather 4 (pieceOf x)) 0 0))
-          → (length (gather 4 (pieceOf x) ++ digitOf x 1 ∷ []) ≡ 1) ⊎ (48 < getD (gather 4 (pieceOf x) ++ digitOf x 1 ∷ []) 0 0)
+      go : Leads x 4 (front x 4) → (length (front x 4 ++ digitOf x 1 ∷ []) ≡ 1) ⊎ (48 < getD (front x 4 ++ digitOf x 1 ∷ []) 0 0)
       go (inl w) = inl (ap (λ (t : List ℕ). length (t ++ digitOf x 1 ∷ [])) (w .0))
-      go (inr w) = inr (rw (List·getD-append (gather 4 (pieceOf x)) (digitOf x 1 ∷ []) 0 0 (w .0)) (w .1))
+      go (inr w) = inr (still (front x 4) (digitOf x 1 ∷ []) w .1)
 
 abbrev Digit : ℕ → Type 0
 Digit d = (48 ≤ d) × (d ≤ 57)
@@ -148,7 +151,7 @@ one-digit y =
 decimal-digits : (x : ℕ) → Every Digit 0 (decimal x)
 unfolding decimal
 decimal-digits x =
-    every-append Digit 0 (gather 4 (pieceOf x)) (digitOf x 1 ∷ [])
+    every-append Digit 0 (front x 4) (digitOf x 1 ∷ [])
     (every-gather Digit 0 (pieceOf x)
     (λ j. pick-either (Every Digit 0) (ltb x (10 ^ (4 - j))) [] (digitOf x (10 ^ (4 - j)) ∷ []) (λ e. every-nil Digit 0) (λ e. one-digit (x / 10 ^ (4 - j))))
     4)
@@ -160,11 +163,11 @@ decimal-length x =
     let four =
     length-gather-le (pieceOf x) 1
     (λ j. pick-either (λ (l : List ℕ). length l ≤ 1) (ltb x (10 ^ (4 - j))) [] (digitOf x (10 ^ (4 - j)) ∷ []) (λ e. omega arith) (λ e. omega arith)) 4 in
-    let more = length-append (gather 4 (pieceOf x)) (digitOf x 1 ∷ []) in
+    let more = length-append (front x 4) (digitOf x 1 ∷ []) in
     (omega arith, omega arith)
 
 -- a decimal that is written and followed by a byte that is no digit is read back as the number
-module _ (x c : ℕ) (small : x ≤ 65535) (none : leb 48 c and leb c 57 ≡ false) (b : List ℕ) (i : ℕ) (h : Stands b i (decimal x ++ c ∷ [])) where
+module _ (x c : ℕ) (small : x ≤ 65535) (none : between 48 57 c ≡ false) (b : List ℕ) (i : ℕ) (h : Stands b i (decimal x ++ c ∷ [])) where
   whole : i + (length (decimal x) + 1) ≤ length b
   whole =
       let n = length-append (decimal x) (c ∷ []) in
@@ -180,15 +183,15 @@ module _ (x c : ℕ) (small : x ≤ 65535) (none : leb 48 c and leb c 57 ≡ fal
   end-back : digitsEnd b i ≡ i + length (decimal x)
   end-back =
       digitsEnd-is b (length (decimal x)) i digit (let z = whole in omega arith)
-      (ap (λ (t : Bool). ltb (i + length (decimal x)) (length b) and t) (ap (λ (d : ℕ). leb 48 d and leb d 57) behind ∙ none) ∙ and-false (ltb (i + length (decimal x)) (length b)))
+      (ap (λ (t : Bool). ltb (i + length (decimal x)) (length b) and t) (ap (between 48 57) behind ∙ none) ∙ and-false (ltb (i + length (decimal x)) (length b)))
     where
       digit : (j : ℕ) → j < length (decimal x) → digitAt b (i + j) ≡ true
       digit j l =
           let d = decimal-digits x j l in
           let e = reads j l in
           let z = whole in
-          and-intro (ltb (i + j) (length b)) (leb 48 (getD b (i + j) 0) and leb (getD b (i + j) 0) 57) (lt-ltb (i + j) (length b) (omega arith))
-          (and-intro (leb 48 (getD b (i + j) 0)) (leb (getD b (i + j) 0) 57) (le-leb 48 (getD b (i + j) 0) (omega arith)) (le-leb (getD b (i + j) 0) 57 (omega arith)))
+          and-intro (ltb (i + j) (length b)) (between 48 57 (getD b (i + j) 0)) (lt-ltb (i + j) (length b) (omega arith))
+          (true-between 48 57 (getD b (i + j) 0) (omega arith) (omega arith))
 
   number-back : decimalAt b i ≡ x
   number-back =
@@ -219,32 +222,18 @@ module _ (x c : ℕ) (small : x ≤ 65535) (none : leb 48 c and leb c 57 ≡ fal
 
 -- ---- bytes in hexadecimal
 
-hex-low : (z : ℕ) → 48 ≤ z → z ≤ 57 → (isHexDigit z ≡ true) × (hexDigit z ≡ z - 48)
-hex-low z h g = (
-  or-left (leb 48 z and leb z 57) (leb 97 z and leb z 102) (and-intro (leb 48 z) (leb z 57) (le-leb 48 z h) (le-leb z 57 g)),
-  ap (λ (t : Bool). pick t (z - 48) (z - 87)) (le-leb z 57 g),
-)
-
-hex-high : (z : ℕ) → 97 ≤ z → z ≤ 102 → (isHexDigit z ≡ true) × (hexDigit z ≡ z - 87)
-hex-high z h g = (
-  or-right (leb 48 z and leb z 57) (leb 97 z and leb z 102) (and-intro (leb 97 z) (leb z 102) (le-leb 97 z h) (le-leb z 102 g)),
-  ap (λ (t : Bool). pick t (z - 48) (z - 87)) (lt-leb z 57 (omega arith)),
-)
-
 glyph-back : (y : ℕ) → y < 16 → (isHexDigit (glyph y) ≡ true) × (hexDigit (glyph y) ≡ y)
 glyph-back y h = go (ltb y 10) refl
   where
     go : (b : Bool) → ltb y 10 ≡ b → (isHexDigit (pick b (48 + y) (87 + y)) ≡ true) × (hexDigit (pick b (48 + y) (87 + y)) ≡ y)
     go true e =
         let l = ltb-true y 10 e in
-        let w = hex-low (48 + y) (omega arith) (omega arith) in
-        let z : 48 + y - 48 ≡ y = omega arith in
-        (w .0, w .1 ∙ z)
+        let low : leb (48 + y) 57 ≡ true = le-leb (48 + y) 57 (omega arith) in
+        (or-left (between 48 57 (48 + y)) (between 97 102 (48 + y)) (true-between 48 57 (48 + y) (omega arith) (omega arith)), rw low (omega arith))
     go false e =
         let l = ltb-false y 10 e in
-        let w = hex-high (87 + y) (omega arith) (omega arith) in
-        let z : 87 + y - 87 ≡ y = omega arith in
-        (w .0, w .1 ∙ z)
+        let high : leb (87 + y) 57 ≡ false = lt-leb (87 + y) 57 (omega arith) in
+        (or-right (between 48 57 (87 + y)) (between 97 102 (87 + y)) (true-between 97 102 (87 + y) (omega arith) (omega arith)), rw high (omega arith))
 
 gather-take : (l : List ℕ) (p n : ℕ) → p + n ≤ length l → gather n (λ j. getD l (p + j) 0 ∷ []) ≡ take n (drop p l)
 unfolding gather
@@ -253,51 +242,40 @@ gather-take l p (suc n) h =
     let room : n < length (drop p l) = rw (length-drop p l) (omega arith) in
     ap₂ (λ (t : List ℕ) (x : ℕ). t ++ x ∷ []) (gather-take l p n (omega arith)) (sym (getD-drop p l n 0)) ∙ sym (take-suc (drop p l) n 0 room)
 
+-- the two digits of a byte, written from p on, say the byte
+module _ (x : ℕ) (byte : x < 256) where
+  high-back : (isHexDigit (glyph (x / 16)) ≡ true) × (hexDigit (glyph (x / 16)) ≡ x / 16)
+  high-back = glyph-back (x / 16) (omega (arith, div-add-mod x 16))
+
+  low-back : (isHexDigit (glyph (x % 16)) ≡ true) × (hexDigit (glyph (x % 16)) ≡ x % 16)
+  low-back = glyph-back (x % 16) (mod-lt x {m = 16} (omega arith))
+
+  pair-digits : (r : ℕ) → r < 2 → isHexDigit (getD (hexPair x) r 0) ≡ true
+  pair-digits zero g = high-back .0
+  pair-digits (suc zero) g = low-back .0
+  pair-digits (suc (suc r)) g = absurd (omega arith)
+
+  pair-said : (s : List ℕ) (p : ℕ) → Stands s p (hexPair x) → hexSaid s p ≡ x
+  pair-said s p h =
+      let first : getD s p 0 ≡ glyph (x / 16) = ap (λ (q : ℕ). getD s q 0) (sym (add-zero p)) ∙ run-at s p (hexPair x) h 0 (omega arith) in
+      ap₂ (λ (a b : ℕ). a * 16 + b) (ap hexDigit first ∙ high-back .1) (ap hexDigit (run-at s p (hexPair x) h 1 (omega arith)) ∙ low-back .1)
+      ∙ div-add-mod' x 16
+
 -- the digits of n bytes, read again, say these bytes
 module _ (l : List ℕ) (p n : ℕ) (bytes : (j : ℕ) → j < n → getD l (p + j) 0 < 256) (s : List ℕ) (i : ℕ) (h : Stands s i (hexOf l p n)) where
-  two : (j : ℕ) → j < n → Stands s (i + j * 2) (digitsOf l p j)
+  two : (j : ℕ) → j < n → Stands s (i + j * 2) (hexPair (getD l (p + j) 0))
   unfolding hexOf
-  two j lt = stands-piece s (digitsOf l p) 2 (λ k. refl) i n j lt h
+  two j lt = stands-piece s (λ (j : ℕ). hexPair (getD l (p + j) 0)) 2 (λ k. refl) i n j lt h
 
-  module _ (j : ℕ) (lt : j < n) where
-    high : (i + j * 2 < length s) × (getD s (i + j * 2) 0 ≡ glyph (getD l (p + j) 0 / 16))
-    high =
-        let w = run-within s (i + j * 2) (digitsOf l p j) (two j lt) (omega arith) in
-        (omega arith, stands-reads s (i + j * 2) (glyph (getD l (p + j) 0 / 16)) 0 (glyph (getD l (p + j) 0 % 16) ∷ []) (two j lt))
-
-    low : (i + j * 2 + 1 < length s) × (getD s (i + j * 2 + 1) 0 ≡ glyph (getD l (p + j) 0 % 16))
-    low =
-        let w = run-within s (i + j * 2) (digitsOf l p j) (two j lt) (omega arith) in (
-          omega arith,
-          stands-reads s (i + j * 2 + 1) (glyph (getD l (p + j) 0 % 16)) 0 []
-              (stands-right s (i + j * 2) 1 (glyph (getD l (p + j) 0 / 16) ∷ []) (glyph (getD l (p + j) 0 % 16) ∷ []) refl (two j lt)),
-        )
-
-    high-back : (isHexDigit (glyph (getD l (p + j) 0 / 16)) ≡ true) × (hexDigit (glyph (getD l (p + j) 0 / 16)) ≡ getD l (p + j) 0 / 16)
-    high-back = glyph-back (getD l (p + j) 0 / 16) (omega (arith, bytes j lt, div-add-mod (getD l (p + j) 0) 16))
-
-    low-back : (isHexDigit (glyph (getD l (p + j) 0 % 16)) ≡ true) × (hexDigit (glyph (getD l (p + j) 0 % 16)) ≡ getD l (p + j) 0 % 16)
-    low-back = glyph-back (getD l (p + j) 0 % 16) (mod-lt (getD l (p + j) 0) {m = 16} (omega arith))
-
-    digits-stand : (k r : ℕ) → r < 2 → k ≡ 2 * j + r → hexStands s i k ≡ true
-    digits-stand k zero g e =
-        let place : i + k ≡ i + j * 2 = omega arith in
-        let w = high in
-        hex-there s i k (let z = w .0 in omega arith) ∙ ap (λ (q : ℕ). isHexDigit (getD s q 0)) place ∙ ap isHexDigit (w .1) ∙ high-back .0
-    digits-stand k (suc zero) g e =
-        let place : i + k ≡ i + j * 2 + 1 = omega arith in
-        let w = low in
-        hex-there s i k (let z = w .0 in omega arith) ∙ ap (λ (q : ℕ). isHexDigit (getD s q 0)) place ∙ ap isHexDigit (w .1) ∙ low-back .0
-    digits-stand k (suc (suc r)) g e = absurd (omega arith)
-
-    byte-back : byteSaid s i j ≡ getD l (p + j) 0 ∷ []
-    byte-back =
-        let a : i + 2 * j ≡ i + j * 2 = omega arith in
-        ap (λ (x : ℕ). x ∷ [])
-        (ap₂ (λ (x y : ℕ). x * 16 + y)
-        (ap (λ (q : ℕ). hexDigit (getD s q 0)) a ∙ ap hexDigit (high .1) ∙ high-back .1)
-        (ap (λ (q : ℕ). hexDigit (getD s (q + 1) 0)) a ∙ ap hexDigit (low .1) ∙ low-back .1)
-        ∙ div-add-mod' (getD l (p + j) 0) 16)
+  digit-stands : (j : ℕ) → j < n → (k r : ℕ) → r < 2 → k ≡ 2 * j + r → hexStands s i k ≡ true
+  digit-stands j lt k r g e =
+      let x = getD l (p + j) 0 in
+      let room = run-within s (i + j * 2) (hexPair x) (two j lt) (omega arith) in
+      let place : i + k ≡ i + j * 2 + r = omega arith in
+      hex-there s i k (omega arith)
+      ∙ ap (λ (q : ℕ). isHexDigit (getD s q 0)) place
+      ∙ ap isHexDigit (run-at s (i + j * 2) (hexPair x) (two j lt) r g)
+      ∙ pair-digits x (bytes j lt) r g
 
   pub hex-stands-back : hexAt s i n ≡ true
   unfolding hexAt
@@ -306,8 +284,15 @@ module _ (l : List ℕ) (p n : ℕ) (bytes : (j : ℕ) → j < n → getD l (p +
       (λ k lt.
       let whole = div-add-mod k 2 in
       let half = mod-lt k {m = 2} (omega arith) in
-      digits-stand (k / 2) (omega arith) k (k % 2) half (omega arith))
+      digit-stands (k / 2) (omega arith) k (k % 2) half (omega arith))
+
+  byte-back : (j : ℕ) → j < n → hexSaid s (i + 2 * j) ≡ getD l (p + j) 0
+  byte-back j lt =
+      let a : i + 2 * j ≡ i + j * 2 = omega arith in
+      ap (hexSaid s) a ∙ pair-said (getD l (p + j) 0) (bytes j lt) s (i + j * 2) (two j lt)
 
   pub hex-back : p + n ≤ length l → hexBytes s i n ≡ take n (drop p l)
   unfolding hexBytes
-  hex-back room = gather-same (byteSaid s i) (λ j. getD l (p + j) 0 ∷ []) n byte-back ∙ gather-take l p n room
+  hex-back room =
+      gather-same (λ j. hexSaid s (i + 2 * j) ∷ []) (λ j. getD l (p + j) 0 ∷ []) n (λ j lt. ap (λ (x : ℕ). x ∷ []) (byte-back j lt))
+      ∙ gather-take l p n room

@@ -6,6 +6,7 @@ ghost use lib.ListN.{length, getD};
 ghost use Rattle.rules.specs.Text.{byteAt, digitAt, wordAt, digitsEnd, digitsSay, numberPlace, numberAt, numbersAt};
 ghost use Rattle.text.specs.Decimals.{decimalIn};
 
+// This byte stands at i.
 pub fn byte_at(b: &[u8], i: usize, c: u8) -> bool
     ensures { λ r. ⌜ r ≡ byteAt (now (b .entry)) i c ⌝ }
 {
@@ -22,7 +23,7 @@ fn digit_at(b: &[u8], i: usize) -> bool
         return false;
     }
     let x = b[i];
-    48 <= x && x <= 57
+    b'0' <= x && x <= b'9'
 }
 
 // How many bytes stand from i on.
@@ -35,6 +36,7 @@ fn left_from(b: &[u8], i: usize) -> usize
     b.len() - i
 }
 
+// This word stands from i on.
 pub fn word_at(b: &[u8], i: usize, w: &[u8]) -> bool
     ensures { λ r. ⌜ r ≡ wordAt (now (b .entry)) i (now (w .entry)) ⌝ }
 {
@@ -53,6 +55,7 @@ pub fn word_at(b: &[u8], i: usize, w: &[u8]) -> bool
 
 // ---- a decimal
 
+// Where the digits that start at i end.
 pub fn digits_end(b: &[u8], i: usize) -> usize
     ensures { λ r. ⌜ r ≡ digitsEnd (now (b .entry)) i ⌝ }
 {
@@ -66,17 +69,19 @@ pub fn digits_end(b: &[u8], i: usize) -> usize
     j
 }
 
+// What a digit says, and 0 for a byte below them all.
 fn digit_says(b: &[u8], i: usize) -> u32
     requires { ⌜ i < length (now b) ⌝ }
     ensures { λ r. ⌜ (r ≡ getD (now (b .entry)) i 0 - 48) × (r ≤ 207) ⌝ }
 {
     let x = b[i];
-    if x < 48 {
+    if x < b'0' {
         return 0;
     }
-    (x - 48) as u32
+    (x - b'0') as u32
 }
 
+// What the n digits from i on say.
 fn digits_say(b: &[u8], i: usize, n: usize) -> u32
     requires { ⌜ (n ≤ 5) × (i + n ≤ length (now b)) ⌝ }
     ensures { λ r. ⌜ r ≡ digitsSay (now (b .entry)) i n ⌝ }
@@ -97,31 +102,7 @@ pub struct Decimal {
     pub end: usize,
 }
 
-// What the n digits from i to end say, if that is a decimal.
-fn decimal_of(b: &[u8], i: usize, end: usize) -> Decimal
-    requires { ⌜ (i < end) × (end ≤ i + 5) × (end ≤ length (now b)) × (end ≡ digitsEnd (now b) i) ⌝ }
-    ensures { λ r. ⌜ r ≡ decimalIn (now (b .entry)) i ⌝ }
-{
-    let none = Decimal {
-        stands: false,
-        number: 0,
-        end,
-    };
-    let n = end - i;
-    if 1 < n && byte_at(b, i, 48) {
-        return none;
-    }
-    let said = digits_say(b, i, n);
-    if 65_535 < said {
-        return none;
-    }
-    Decimal {
-        stands: true,
-        number: said as u16,
-        end,
-    }
-}
-
+// One that starts at i: at most five digits, no zero before another, a number of two bytes.
 pub fn decimal_at(b: &[u8], i: usize) -> Decimal
     ensures { λ r. ⌜ r ≡ decimalIn (now (b .entry)) i ⌝ }
 {
@@ -134,10 +115,22 @@ pub fn decimal_at(b: &[u8], i: usize) -> Decimal
     if end <= i {
         return none;
     }
-    if 5 < end - i {
+    let n = end - i;
+    if 5 < n {
         return none;
     }
-    decimal_of(b, i, end)
+    if 1 < n && byte_at(b, i, b'0') {
+        return none;
+    }
+    let said = digits_say(b, i, n);
+    if 65_535 < said {
+        return none;
+    }
+    Decimal {
+        stands: true,
+        number: said as u16,
+        end,
+    }
 }
 
 // ---- the numbers of a line

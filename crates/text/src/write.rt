@@ -1,13 +1,13 @@
 // Writers. One gets a slice and a place, and hands the place behind what it wrote back.
-ghost use mathlib.Core.Path.{_≡_};
 ghost use Prim.Native.Nat.{_+_, _≤_, _<_};
 ghost use lib.ListN.{length};
-ghost use lib.Seq.{sets};
 ghost use Rattle.rules.specs.Text.{decimal};
+ghost use Rattle.text.specs.Puts.{Puts, PutsWord};
 
+// The bytes of a word.
 pub fn put_word(out: &mut [u8], at: usize, w: &[u8]) -> usize
     requires { ⌜ at + length (now w) ≤ length (now out) ⌝ }
-    ensures { λ r. ⌜ (r ≡ at + length (now (w .entry))) × (now (out .exit) ≡ sets (now (out .entry)) at (now (w .entry))) ⌝ }
+    ensures { λ r. ⌜ PutsWord (now (out .entry)) at (now (w .entry)) r (now (out .exit)) ⌝ }
 {
     let mut j: usize = 0;
     while j < w.len() {
@@ -20,7 +20,7 @@ pub fn put_word(out: &mut [u8], at: usize, w: &[u8]) -> usize
 // A number has five digits at most.
 pub fn put_decimal(out: &mut [u8], at: usize, x: u32) -> usize
     requires { ⌜ (x < 100000) × (at + 5 ≤ length (now out)) ⌝ }
-    ensures { λ r. ⌜ (r ≡ at + length (decimal x)) × (r ≤ at + 5) × (now (out .exit) ≡ sets (now (out .entry)) at (decimal x)) ⌝ }
+    ensures { λ r. ⌜ Puts (now (out .entry)) at (decimal x) 5 r (now (out .exit)) ⌝ }
 {
     let mut next = at;
     let mut power: u32 = 10_000;

@@ -30,41 +30,18 @@ inverted-below t =
 abbrev claims : ℕ → inverted-lts.Claims
 claims t = (inverted-below t, inverted.Post, product-reads.Asked, product-reads.Learnt)
 
-inverted-returns : (t : ℕ) → inverted-lts.Need-returns (claims t) (inverted-at t) inverted.Post
-inverted-returns t c = ap exponent (sym (inverse-small _ _ (c .if1 .taken)))
-
-inverted-div-d : (t : ℕ) → inverted-lts.Need-div-d (claims t) (inverted-at t) inverted.Post
-inverted-div-d t c = search needs
-
-inverted-rem-t6 : (t : ℕ) → inverted-lts.Need-rem-t6 (claims t) (inverted-at t) inverted.Post
-inverted-rem-t6 t c = search needs
-
-inverted-inverted-requires : (t : ℕ) → inverted-lts.Need-inverted-requires (claims t) (inverted-at t) inverted.Post
-inverted-inverted-requires t c κs =
-    let start = c .before .before .before .before in
-    let less : start .args .q % start .args .x .0 < start .args .x .0 = mod-lt _ (omega arith) in
-    (omega arith, start .pre .1)
-
-inverted-sub-t6 : (t : ℕ) → inverted-lts.Need-sub-t6 (claims t) (inverted-at t) inverted.Post
-inverted-sub-t6 t c = div-le-self _ _
-
-inverted-product-requires : (t : ℕ) → inverted-lts.Need-product-requires (claims t) (inverted-at t) inverted.Post
-inverted-product-requires t c κs = c .before .before .before .before .before .pre .1
-
-inverted-returns-2 : (t : ℕ) → inverted-lts.Need-returns-2 (claims t) (inverted-at t) inverted.Post
-inverted-returns-2 t c =
-    rw (c .product .ensures, c .before .inverted .ensures)
-    (ap exponent (sym (inverse-step _ _ (c .before .before .before .before .if1 .left))))
-
 pub +inverted-spec : {M : Type 1} → statement M
 +inverted-spec = close μ-inverted λ t. inverted-lts.spec
     (claims t)
     (inverted-at t)
     inverted.Post
-    (inverted-returns t)
-    (inverted-div-d t)
-    (inverted-rem-t6 t)
-    (inverted-inverted-requires t)
-    (inverted-sub-t6 t)
-    (inverted-product-requires t)
-    (inverted-returns-2 t)
+    (λ c. ap exponent (sym (inverse-small _ _ (c .if1 .taken))))
+    (λ c. search needs)
+    (λ c. search needs)
+    (λ c κs. let start = c .before .before .before .before in
+    let less : start .args .q % start .args .x .0 < start .args .x .0 = mod-lt _ (omega arith) in
+    (omega arith, start .pre .1))
+    (λ c. div-le-self _ _)
+    (λ c κs. c .before .before .before .before .before .pre .1)
+    (λ c. rw (c .product .ensures, c .before .inverted .ensures)
+    (ap exponent (sym (inverse-step _ _ (c .before .before .before .before .if1 .left)))))

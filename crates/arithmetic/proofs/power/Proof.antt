@@ -48,21 +48,6 @@ Inv-loop p base₀ left₀ made₀ base left made =
 abbrev μ-loop : tie.MeasureT-loop
 μ-loop p base₀ left₀ made₀ base left made = left
 
-rem-t7 : tie.Need-rem-t7 Inv-loop μ-loop
-rem-t7 c = search needs
-
-loop-holds : tie.Need-loop-holds Inv-loop μ-loop
-loop-holds c = (mod-lt 1 (c .pre), mod-mul-mod 1 _ _ ∙ ap (λ t. t % c .args .p) (one-mul _))
-
-times-requires : tie.Need-times-requires Inv-loop μ-loop
-times-requires c κs = search needs
-
-times-requires-2 : tie.Need-times-requires-2 Inv-loop μ-loop
-times-requires-2 c κs = search needs
-
-loop-less : tie.Need-loop-less Inv-loop μ-loop
-loop-less c = div-lt-self (c .before .before .loop-test .taken) (omega arith)
-
 loop-again : tie.Need-loop-again Inv-loop μ-loop
 loop-again c =
     let inv = c .before .before .before .loop .inv in
@@ -73,22 +58,18 @@ loop-again c =
     (λ w. rw (w .1, c .times2 .ensures) (inv .0, even _ _ _ _ (w .0 .left) ∙ inv .1))
     (c .before .if1 .came)
 
-returns : tie.Need-returns Inv-loop μ-loop
-returns c =
-    let inv = c .before .loop .inv in
-    let none : c .before .loop .left ≡ 0 = omega arith in
-    ap element (all-made _ _ _ _ _ none (inv .0) (inv .1))
-
 pub power-spec : {M : Type 1} → statement M
 power-spec =
     tie.close
     (tie.spec
     Inv-loop
     μ-loop
-    rem-t7
-    loop-holds
-    times-requires
-    times-requires-2
-    loop-less
+    (λ c. search needs)
+    (λ c. (mod-lt 1 (c .pre), mod-mul-mod 1 _ _ ∙ ap (λ t. t % c .args .p) (one-mul _)))
+    (λ c κs. search needs)
+    (λ c κs. search needs)
+    (λ c. div-lt-self (c .before .before .loop-test .taken) (omega arith))
     loop-again
-    returns)
+    (λ c. let inv = c .before .loop .inv in
+    let none : c .before .loop .left ≡ 0 = omega arith in
+    ap element (all-made _ _ _ _ _ none (inv .0) (inv .1))))

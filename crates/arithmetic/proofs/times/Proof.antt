@@ -1,26 +1,9 @@
 -- `times` is x y modulo p. Assumes nothing.
+use mathlib.Core.Path.{ap}
 use borrow.Author.Needs.{needs}
-use Rattle.arithmetic.proofs.Fitting.{mod-fits, product-below}
+use Rattle.rules.specs.Numbers.{element}
 use Rattle.arithmetic.proofs.times.Statement.{statement}
 use Rattle.arithmetic.proofs.times.Tie as tie
 
-cast-t4 : tie.Need-cast-t4
-cast-t4 c = search needs
-
-cast-t5 : tie.Need-cast-t5
-cast-t5 c = search needs
-
-mul-t6 : tie.Need-mul-t6
-mul-t6 c = record { fits = product-below 16 (search needs) (search needs) }
-
-rem-t8 : tie.Need-rem-t8
-rem-t8 c = search needs
-
-cast-t9 : tie.Need-cast-t9
-cast-t9 c = mod-fits _ (c .before .before .pre) (c .before .before .fits .p)
-
-returns : tie.Need-returns
-returns c = search needs
-
 pub times-spec : {M : Type 1} → statement M
-times-spec = tie.close (tie.spec cast-t4 cast-t5 mul-t6 rem-t8 cast-t9 returns)
+times-spec = tie.close (tie.spec (λ c κs. search needs) (λ c. ap element (c .product-modulo .ensures)))

@@ -4,13 +4,10 @@ use Rattle.rules.specs.Dealing.{pairBelow}
 use Rattle.checking.proofs.pair_below.Statement.{statement}
 use Rattle.checking.proofs.pair_below.Tie as tie
 
-returns : tie.Need-returns
-unfolding pairBelow
-returns c = rw (le-ltb _ _ (c .if1 .taken))
-
-returns-2 : tie.Need-returns-2
-unfolding pairBelow
-returns-2 c = rw (lt-ltb _ _ (c .before .before .if1 .left))
-
 pub pair-below-spec : {M : Type 1} → statement M
-pair-below-spec = tie.close (tie.spec returns returns-2)
+unfolding pairBelow
+pair-below-spec =
+    tie.close
+    (tie.spec
+    (λ c. rw (le-ltb _ _ (c .if1 .taken)))
+    (λ c. rw (lt-ltb _ _ (c .before .before .if1 .left))))

@@ -1,69 +1,43 @@
 -- `polynomials_below` is the test that refusal 9 holds of no coefficient of the four polynomials. Assumes nothing.
-use mathlib.Core.Path.{sym, _∙_}
+use mathlib.Core.Path.{_≡_}
+use mathlib.Core.Bool.{true}
 use borrow.Author.Needs.{needs}
-use borrow.Author.Tests.{not-true, not-false}
-use Rattle.rules.specs.Dealing.{polynomialsBelow}
+use Rattle.folds.specs.Tests.{failed, passed}
+use Rattle.rules.specs.Dealing.{coefficientsBelow, polynomialsBelow}
 use Rattle.checking.proofs.polynomials_below.Statement.{statement}
 use Rattle.checking.proofs.polynomials_below.Tie as tie
 
-coefficients-below-requires : tie.Need-coefficients-below-requires
-coefficients-below-requires c κs = search needs
+-- behind the test of a, of a' and of b
+abbrev of-a : tie.Else2 → tie.Else1
+of-a c = c .before .before .before
 
-returns : tie.Need-returns
-unfolding polynomialsBelow
-returns c = rw (sym (c .before .coefficients-below .ensures) ∙ not-true _ (c .if1 .taken))
+abbrev of-a2 : tie.Else3 → tie.Else2
+of-a2 c = c .before .before .before
 
-coefficients-below-requires-2 : tie.Need-coefficients-below-requires-2
-coefficients-below-requires-2 c κs = search needs
+abbrev start : tie.Else1 → tie.Start
+start c = c .before .before .before
 
-returns-2 : tie.Need-returns-2
-unfolding polynomialsBelow
-returns-2 c =
-    let first = c .before .before .before in
-    rw (
-      sym (first .before .coefficients-below .ensures) ∙ not-false _ (first .if1 .left),
-      sym (c .before .coefficients-below2 .ensures) ∙ not-true _ (c .if2 .taken),
-    )
+first : (c : tie.Else1) → let a = start c .args in coefficientsBelow (a .q) (a .k) (a .all .a) ≡ true
+first c = passed (c .before .coefficients-below .ensures) (c .if1 .left)
 
-coefficients-below-requires-3 : tie.Need-coefficients-below-requires-3
-coefficients-below-requires-3 c κs = search needs
+second : (c : tie.Else2) → let a = start (of-a c) .args in coefficientsBelow (a .q) (a .k) (a .all .a2) ≡ true
+second c = passed (c .before .coefficients-below2 .ensures) (c .if2 .left)
 
-returns-3 : tie.Need-returns-3
-unfolding polynomialsBelow
-returns-3 c =
-    let second = c .before .before .before in
-    let first = second .before .before .before in
-    rw (
-      sym (first .before .coefficients-below .ensures) ∙ not-false _ (first .if1 .left),
-      sym (second .before .coefficients-below2 .ensures) ∙ not-false _ (second .if2 .left),
-      sym (c .before .coefficients-below3 .ensures) ∙ not-true _ (c .if3 .taken),
-    )
-
-coefficients-below-requires-4 : tie.Need-coefficients-below-requires-4
-coefficients-below-requires-4 c κs = search needs
-
-returns-4 : tie.Need-returns-4
-unfolding polynomialsBelow
-returns-4 c =
-    let third = c .before .before in
-    let second = third .before .before .before in
-    let first = second .before .before .before in
-    rw (
-      sym (first .before .coefficients-below .ensures) ∙ not-false _ (first .if1 .left),
-      sym (second .before .coefficients-below2 .ensures) ∙ not-false _ (second .if2 .left),
-      sym (third .before .coefficients-below3 .ensures) ∙ not-false _ (third .if3 .left),
-    )
-    (c .coefficients-below4 .ensures)
+third : (c : tie.Else3) → let a = start (of-a (of-a2 c)) .args in coefficientsBelow (a .q) (a .k) (a .all .b) ≡ true
+third c = passed (c .before .coefficients-below3 .ensures) (c .if3 .left)
 
 pub polynomials-below-spec : {M : Type 1} → statement M
+unfolding polynomialsBelow
 polynomials-below-spec =
     tie.close
     (tie.spec
-    coefficients-below-requires
-    returns
-    coefficients-below-requires-2
-    returns-2
-    coefficients-below-requires-3
-    returns-3
-    coefficients-below-requires-4
-    returns-4)
+    (λ c κs. search needs)
+    (λ c. rw (failed (c .before .coefficients-below .ensures) (c .if1 .taken)))
+    (λ c κs. search needs)
+    (λ c. rw (first (c .before .before .before), failed (c .before .coefficients-below2 .ensures) (c .if2 .taken)))
+    (λ c κs. search needs)
+    (λ c. let d = c .before .before .before in
+    rw (first (of-a d), second d, failed (c .before .coefficients-below3 .ensures) (c .if3 .taken)))
+    (λ c κs. search needs)
+    (λ c. let d = c .before .before in
+    rw (first (of-a (of-a2 d)), second (of-a2 d), third d) (c .coefficients-below4 .ensures)))

@@ -15,20 +15,12 @@ behind : {A : Type 0} (x : A) (xs : List A) (d : A) (i : ℕ) → i ≢ 0 → ge
 behind x xs d zero h = absurd (h refl)
 behind x xs d (suc i) h = let before : suc i - 1 ≡ i = omega arith in rw before
 
-returns : tie.Need-returns
-returns c = rw (c .if1 .taken)
-
-sub-t5 : tie.Need-sub-t5
-sub-t5 c = search needs
-
-mul-t6 : tie.Need-mul-t6
-mul-t6 c = search needs
-
-shared-slice-read-t8 : tie.Need-shared-slice-read-t8
-shared-slice-read-t8 c = search needs
-
-returns-2 : tie.Need-returns-2
-returns-2 c = ap exponent (sym (behind _ (c .before .before .args .coins .now) 0 _ (c .before .if1 .left)))
-
 pub coin-spec : {M : Type 1} → statement M
-coin-spec = tie.close (tie.spec returns sub-t5 mul-t6 shared-slice-read-t8 returns-2)
+coin-spec =
+    tie.close
+    (tie.spec
+    (λ c. rw (c .if1 .taken))
+    (λ c. search needs)
+    (λ c. search needs)
+    (λ c. search needs)
+    (λ c. ap exponent (sym (behind _ (c .before .before .args .coins .now) 0 _ (c .before .if1 .left)))))

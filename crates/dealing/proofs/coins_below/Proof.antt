@@ -1,53 +1,26 @@
 -- `coins_below` is the test that every coin is below q. The loop's invariant: each coin before c is. Assumes nothing.
-use mathlib.Core.Path.{_≡_, sym}
-use mathlib.Core.Bool.{true}
-use Prim.Native.Nat.{_-_, _≤_}
+use Prim.Native.Nat.{ℕ, _-_, _<_, _≤_}
 use native.Mathlib.Omega.{arith}
 use lib.Dec.{ltb}
 use lib.ListN.{length, getD}
 use borrow.Author.Needs.{needs}
 use borrow.Author.Tests.{lt-ltb, le-ltb}
-use Rattle.folds.specs.Below.{allBelow, allBelow-zero, allBelow-more, allBelow-not}
-use Rattle.dealing.specs.Rows.{coinsBelow}
+use Rattle.arithmetic.specs.Loops.{Passing, passing-none, passing-more, passing-not, passing-all}
 use Rattle.dealing.proofs.coins_below.Statement.{statement}
 use Rattle.dealing.proofs.coins_below.Tie as tie
 
 abbrev Inv-loop : tie.InvT-loop
-Inv-loop q coins c₀ c = (c ≤ length coins) × (allBelow c (λ i. ltb (getD coins i 0) q) ≡ true)
+Inv-loop q coins c₀ c = Passing (λ n. ltb (getD coins n 0) q) (length coins) c
 
 abbrev μ-loop : tie.MeasureT-loop
 μ-loop q coins c₀ c = length coins - c
 
-loop-holds : tie.Need-loop-holds Inv-loop μ-loop
-loop-holds c = (omega arith, allBelow-zero _)
+-- the coin that a turn tests, and q
+abbrev coin : tie.In-loop Inv-loop μ-loop → ℕ
+coin c = getD (c .before .before .args .coins .now) (c .before .loop .c) 0
 
-mul-if1 : tie.Need-mul-if1 Inv-loop μ-loop
-mul-if1 c = search needs
-
-shared-slice-read-if1 : tie.Need-shared-slice-read-if1 Inv-loop μ-loop
-shared-slice-read-if1 c = search needs
-
-returns : tie.Need-returns Inv-loop μ-loop
-unfolding coinsBelow
-returns c =
-    let args = c .before .before .before .before .args in
-    let large : args .q ≤ getD (args .coins .now) (c .before .before .before .loop .c) 0 = omega arith in
-    sym (allBelow-not _ _ _ (c .before .before .loop-test .taken) (le-ltb _ _ large))
-
-add-c : tie.Need-add-c Inv-loop μ-loop
-add-c c = search needs
-
-loop-less : tie.Need-loop-less Inv-loop μ-loop
-loop-less c = search needs
-
-loop-again : tie.Need-loop-again Inv-loop μ-loop
-loop-again c = (omega arith, allBelow-more _ _ (c .before .before .before .loop .inv .1) (lt-ltb _ _ (c .if1 .left)))
-
-returns-2 : tie.Need-returns-2 Inv-loop μ-loop
-unfolding coinsBelow
-returns-2 c =
-    let all : c .before .loop .c ≡ length (c .before .before .args .coins .now) = omega arith in
-    sym (rw all at (c .before .loop .inv .1))
+abbrev order : tie.In-loop Inv-loop μ-loop → ℕ
+order c = c .before .before .args .q
 
 pub coins-below-spec : {M : Type 1} → statement M
 coins-below-spec =
@@ -55,11 +28,15 @@ coins-below-spec =
     (tie.spec
     Inv-loop
     μ-loop
-    loop-holds
-    mul-if1
-    shared-slice-read-if1
-    returns
-    add-c
-    loop-less
-    loop-again
-    returns-2)
+    (λ c. passing-none)
+    (λ c. search needs)
+    (λ c. search needs)
+    (λ c. let turn = c .before .before in
+    let large : order turn ≤ coin turn = omega arith in
+    passing-not (turn .before .loop .inv) (turn .loop-test .taken) (le-ltb _ _ large))
+    (λ c. search needs)
+    (λ c. search needs)
+    (λ c. let turn = c .before .before in
+    let low : coin turn < order turn = omega arith in
+    passing-more (turn .before .loop .inv) (turn .loop-test .taken) (lt-ltb _ _ low))
+    (λ c. passing-all (c .before .loop .inv) (c .loop-test .left)))

@@ -1,69 +1,32 @@
 -- `column` is a column of coefficients. The loop's invariant: the first j are stored. Assumes nothing.
-use mathlib.Core.Path.{_≡_, refl, sym}
-use Prim.Native.Nat.{_-_, _≤_}
-use native.Mathlib.Omega.{arith}
+use Prim.Native.Nat.{_-_}
 use borrow.Author.Needs.{needs}
-use Rattle.folds.specs.Stores.{stores, stores-zero, stores-turn, stores-left}
+use mathlib.Core.Path.{refl}
 use Rattle.rules.specs.Numbers.{exponent}
 use Rattle.rules.specs.Matrices.{row, coefficient₂}
-use Rattle.dealing.specs.Rows.{columnOf}
+use Rattle.arithmetic.specs.Loops.{Filling, filling-none, filling-more, filling-all}
 use Rattle.dealing.proofs.column.Statement.{statement}
 use Rattle.dealing.proofs.column.Tie as tie
 
 abbrev Inv-loop : tie.InvT-loop
-Inv-loop k l f made₀ j₀ made j = (j ≤ k) × (made ≡ stores j (λ n. exponent (coefficient₂ f n l)) made₀)
-
-abbrev μ-loop : tie.MeasureT-loop
-μ-loop k l f made₀ j₀ made j = k - j
-
-loop-holds : tie.Need-loop-holds Inv-loop μ-loop
-loop-holds c = (omega arith, sym (stores-zero _ _))
-
-mul-line : tie.Need-mul-line Inv-loop μ-loop
-mul-line c = search needs
-
-array-copy-out-line : tie.Need-array-copy-out-line Inv-loop μ-loop
-array-copy-out-line c = search needs
-
-mul-x : tie.Need-mul-x Inv-loop μ-loop
-mul-x c = search needs
-
-array-copy-out-x : tie.Need-array-copy-out-x Inv-loop μ-loop
-array-copy-out-x c = search needs
-
-mul-made : tie.Need-mul-made Inv-loop μ-loop
-mul-made c = search needs
-
-array-set-from-made : tie.Need-array-set-from-made Inv-loop μ-loop
-array-set-from-made c = search needs
-
-add-j : tie.Need-add-j Inv-loop μ-loop
-add-j c = search needs
-
-loop-less : tie.Need-loop-less Inv-loop μ-loop
-loop-less c = search needs
-
-loop-again : tie.Need-loop-again Inv-loop μ-loop
-loop-again c = (omega arith, stores-turn _ _ _ (c .before .before .before .loop .inv .1) refl)
-
-returns : tie.Need-returns Inv-loop μ-loop
-unfolding columnOf row
-returns c = stores-left _ _ _ _ (c .before .loop .inv .0) (c .loop-test .left) (c .before .loop .inv .1)
+Inv-loop k l f made₀ j₀ made j = Filling (λ n. exponent (coefficient₂ f n l)) made₀ k j made
 
 pub column-spec : {M : Type 1} → statement M
+unfolding row
 column-spec =
     tie.close
     (tie.spec
     Inv-loop
-    μ-loop
-    loop-holds
-    mul-line
-    array-copy-out-line
-    mul-x
-    array-copy-out-x
-    mul-made
-    array-set-from-made
-    add-j
-    loop-less
-    loop-again
-    returns)
+    (λ k l f made₀ j₀ made j. k - j)
+    (λ c. filling-none)
+    (λ c. search needs)
+    (λ c. search needs)
+    (λ c. search needs)
+    (λ c. search needs)
+    (λ c. search needs)
+    (λ c. search needs)
+    (λ c. search needs)
+    (λ c. search needs)
+    (λ c. let turn = c .before .before in
+    filling-more (turn .before .loop .inv) (turn .loop-test .taken) refl)
+    (λ c. filling-all (c .before .loop .inv) (c .loop-test .left)))

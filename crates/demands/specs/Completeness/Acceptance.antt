@@ -15,8 +15,9 @@ use Rattle.rules.specs.Numbers.{isBox}
 use Rattle.rules.specs.Messages.{Message, tagOf, framed, bytesOf, hasMatrix}
 use Rattle.rules.specs.Dealing.{matrixPasses}
 use Rattle.rules.specs.Record.{groupIn, heardFor, isThere, isDone, sound}
-use Rattle.rules.specs.Answers.{exponentsKeep, checks, deliverRows}
-use Rattle.rules.specs.Laws.DemandOne.{none, deliver-number}
+use Rattle.rules.specs.Answers.{exponentsKeep, checks, deliverRows, callRows, formRows, turnRows, hearingRows, earlyRows}
+use Rattle.rules.specs.Laws.Table.{none}
+use Rattle.rules.specs.Laws.DemandOne.{deliver-number}
 use Rattle.rules.specs.Laws.Sound.{sound-facts}
 use Rattle.rules.specs.Laws.RoundTrip.{Fits, setup-fits, message-formed, message-ours, message-there, matrixPart, matrix-there}
 use Rattle.demands.specs.Histories.{gets, doing}
@@ -24,20 +25,20 @@ use Rattle.demands.specs.Histories.{gets, doing}
 -- ---- what a message needs
 
 pub record Welcome (x : Record) (sender : ℕ) (m : Message) : Type 0 where
-  pub fits : Fits (x .setup .k) m
+  pub fits : Fits (x .setup) m
   pub dealer : tagOf m ≡ 1 → sender ≡ x .setup .d
   pub commanded : tagOf m ≡ 4 → isDone (x .progress .completion) and x .progress .commanded ≡ true
   pub unrecovered : tagOf m ≡ 4 → isThere (x .recovered .kept) ≡ false
   pub unheard : heardFor x (tagOf m) (sender - 1) ≡ false
   pub matrix : tagOf m ≤ 3 → matrixPasses (groupIn x) (x .setup .k) (matrixPart m) ≡ true
-  pub exponents : exponentsKeep (groupIn x .q) (x .setup .k) m ≡ true
+  pub exponents : exponentsKeep (x .setup) m ≡ true
   pub check : checks x sender m ≡ true
 
 -- ---- it is accepted
 
 pub welcomed : (x : Record) (sender : ℕ) (m : Message) (lent : ℕ) → sound x ≡ true → isBox (x .setup) sender ≡ true → 2048 ≤ lent
     → Welcome x sender m → doing x (gets sender (bytesOf (x .setup) m) lent) .outcome .answer .no ≡ 0
-unfolding doing deliverRows none bytesOf framed hasMatrix
+unfolding doing deliverRows earlyRows callRows formRows turnRows hearingRows none bytesOf framed hasMatrix
 welcomed x sender m lent all-sound sender-box long w =
     let u = x .setup in
     let bytes = bytesOf u m in
@@ -45,7 +46,7 @@ welcomed x sender m lent all-sound sender-box long w =
     let read = message-there u m (w .fits) in
     let n = length-replicate {A = ℕ} lent 0 in
     deliver-number x sender bytes (replicate lent 0) .zero .1
-    (and-intro _ _ (ap not (le-ltb (length (replicate lent 0)) 2048 (omega arith)))
+    (and-intro _ _ (ap not (le-ltb (length {A = ℕ} (replicate lent 0)) 2048 (omega arith)))
     (and-intro _ _ (ap (λ b. not (not b)) all-sound)
     (and-intro _ _ (ap (λ b. not (not b)) sender-box)
     (and-intro _ _ (ap not (message-formed u m fit))
@@ -57,5 +58,5 @@ welcomed x sender m lent all-sound sender-box long w =
     (and-intro _ _ (ap not (w .unheard))
     (and-intro _ _ (ap not (and-not _ _ (λ e.
     let low = leb-true (tagOf m) 3 e in ap (matrixPasses (groupIn x) (u .k)) (matrix-there u m low (w .fits)) ∙ w .matrix low)))
-    (and-intro _ _ (ap (λ b. not (not b)) (ap (exponentsKeep (groupIn x .q) (u .k)) read ∙ w .exponents))
+    (and-intro _ _ (ap (λ b. not (not b)) (ap (exponentsKeep u) read ∙ w .exponents))
     (and-intro _ _ (ap (λ b. not (not b)) (ap (checks x sender) read ∙ w .check)) refl))))))))))))

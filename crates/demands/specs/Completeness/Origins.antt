@@ -5,10 +5,10 @@
 use mathlib.Core.Path.{_≡_, refl, sym, ap, _∙_, subst}
 use mathlib.Core.Bool.{Bool, true}
 use mathlib.Core.List.{List, []}
-use Prim.Native.Nat.{ℕ, _+_, _-_, _<_}
+use Prim.Native.Nat.{ℕ, _-_, _<_}
 use native.Mathlib.Omega.{arith}
 use lib.Dec.{eqb}
-use lib.ListN.{replicate, take}
+use lib.ListN.{replicate, take, length}
 use borrow.Author.Tests.{eqb-true}
 use Rattle.folds.specs.Tests.{pick-either}
 use Rattle.rules.specs.declared.Element.{Element}
@@ -22,17 +22,17 @@ use Rattle.rules.specs.declared.SetUp.{SetUp}
 use Rattle.rules.specs.declared.Slot.{Slot}
 use Rattle.rules.specs.Messages.{Message, send, echo, ready, matrixIn, polynomialsIn, pairIn, messageIn, toEach}
 use Rattle.rules.specs.Dealing.{coinsKeep, matrixPasses, polynomialCheck}
-use Rattle.rules.specs.Record.{slotAt, matrixOf, isThere, countR, sharesKept}
-use Rattle.rules.specs.Steps.{Step, heard, points, readyFour, echoFour, ownSlot, freeSlot, slotFor, opened, echoed, readied, keeping, sendStep, readySent, echoAt, echoStep, completed, readyAt, readyStep, sharing, recovering, shareStep, messageStep, dealStep, completedShare, shareBytes, recoverStep}
-use Rattle.rules.specs.Answers.{accepted, refused, answered, firstOf, dealRows, deal, recover, refusalHeard, deliver, Done}
+use Rattle.rules.specs.Record.{slotAt, matrixOf, isThere, sharesKept}
+use Rattle.rules.specs.Steps.{Step, heard, points, readyFour, echoFour, ownSlot, freeSlot, slotFor, opened, keeping, sendStep, readySent, completed, sharing, recovering, shareStep, messageStep, dealStep, completedShare, shareBytes, recoverStep, completionDue, pointAt, pointStep, taken, readyDue}
+use Rattle.rules.specs.Answers.{accepted, refused, answered, firstOf, dealRows, deal, recover, refusalHeard, deliver, Done, firstRow, deliverRows}
 use Rattle.rules.specs.Laws.DemandOne.{answered-either}
-use Rattle.rules.specs.Laws.Facts.{Side, byEcho, byReady}
+use Rattle.rules.specs.declared.Side.{Side}
+use Rattle.rules.specs.declared.Side.the-variants.{ByEcho, ByReady}
 use Rattle.rules.specs.Laws.Sound.{facts-sound}
 use Rattle.rules.specs.Laws.Lengths.{take-written}
 use Rattle.rules.specs.Laws.RoundTrip.{is-send, is-echo, is-ready, is-recovery, by-tag}
-use Rattle.rules.specs.Laws.Room.{Found, room-echo, room-ready}
-use Rattle.rules.specs.Laws.Kept.{Passed, deal-passed}
-use Rattle.rules.specs.Laws.Kept.TakenSlot.{taken, firstAt}
+use Rattle.rules.specs.Laws.Room.{Found, room}
+use Rattle.rules.specs.Laws.Passed.{Passed, deal-passed}
 use Rattle.rules.specs.Laws.Kept.Changes.{Good}
 use Rattle.demands.specs.Histories.{Call, deals, gets, commanded, doing, wrote}
 use Rattle.demands.specs.Sharing.{group, order, dealtMatrix, dealtTo}
@@ -51,14 +51,14 @@ abbrev pub Spoken : SetUp → Record → Call → Sent → List ℕ → Type 0
 Spoken u x c Nothing run = Unit {0}
 Spoken u x c Send run =
     (secret : ℕ) × (coins : List ℕ)
-    × (coinsKeep (order u) (u .k) secret coins ≡ true)
+    × (coinsKeep u secret coins ≡ true)
     × (u .i ≡ u .d)
     × (run ≡ toEach u (λ j. send (dealtMatrix u secret coins) (dealtTo u secret coins j)))
 Spoken u x c Echo run =
     (bytes : List ℕ)
-    × (matrixPasses (group u) (u .k) (matrixIn (u .k) bytes) ≡ true)
-    × (polynomialCheck (group u) (u .k) (matrixIn (u .k) bytes) (u .i) (polynomialsIn (u .k) bytes) ≡ true)
-    × (run ≡ toEach u (λ j. echo (matrixIn (u .k) bytes) (echoFour (order u) (u .k) (polynomialsIn (u .k) bytes) j)))
+    × (matrixPasses (group u) (u .k) (matrixIn u bytes) ≡ true)
+    × (polynomialCheck (group u) (u .k) (matrixIn u bytes) (u .i) (polynomialsIn u bytes) ≡ true)
+    × (run ≡ toEach u (λ j. echo (matrixIn u bytes) (echoFour (order u) (u .k) (polynomialsIn u bytes) j)))
 Spoken u x c Ready run =
     (s : ℕ) × (s < 20) × (isThere (slotAt (next x c) s .pair .kept) ≡ true) × (run ≡ toEach u (readyOf u (slotAt (next x c) s)))
 Spoken u x c Recovery run = run ≡ shareBytes u (completedShare x (x .progress .completion))
@@ -82,10 +82,10 @@ module _ (x : Record) where
       (wrote (doing x (deals secret coins lent)))
   unfolding doing deal dealStep
   deals-spoken secret coins lent =
-      answered-holds (Spoken (x .setup) x (deals secret coins lent)) (firstOf (dealRows x secret coins (replicate lent 0)))
+      answered-holds (Spoken (x .setup) x (deals secret coins lent)) (firstOf (dealRows x secret coins (length {A = ℕ} (replicate lent 0))))
       (dealStep x secret coins) x (replicate lent 0) tt
       (λ e.
-      let c = deal-passed x secret coins (replicate lent 0) e in
+      let c = deal-passed x secret coins (length {A = ℕ} (replicate lent 0)) e in
       (secret, coins, c .keeps, eqb-true (x .setup .i) (x .setup .d) (c .dealer), refl))
 
   commanded-spoken : (lent : ℕ)
@@ -111,7 +111,7 @@ module _ (x : Record) where
       new = taken b (opened C (slotAt x (slotFor x C))) (sender - 1) f
 
       abbrev sends : Bool
-      sends = firstAt (x .setup) b new
+      sends = readyDue (x .setup) b new
 
       slot-now : sends ≡ true → slotAt (next x it) (slotFor x C) ≡ paired x new
       unfolding accepted
@@ -130,12 +130,10 @@ module _ (x : Record) where
 
     step-tells : (b : Side) (C : List (List Element)) (f : Four) → doing x it .outcome ≡ accepted (stepOf b x (sender - 1) C f)
         → Found x C (slotFor x C) → Tells (stepOf b x (sender - 1) C f)
-    unfolding echoStep echoAt readyStep readyAt readySent completed echoed readied heard slotFor ownSlot freeSlot
-    step-tells byEcho C f out found =
-        pick-either Tells (sends byEcho C f out found) _ _ (sends-ready byEcho C f out found) (λ e. tt)
-    step-tells byReady C f out found =
-        pick-either Tells (sends byReady C f out found) _ _ (sends-ready byReady C f out found)
-        (λ e. pick-either Tells (eqb (countR (new byReady C f out found)) (x .setup .k + x .setup .t)) _ _ (λ q. tt) (λ q. tt))
+    unfolding pointStep pointAt readySent completed heard slotFor ownSlot freeSlot
+    step-tells b C f out found =
+        pick-either Tells (sends b C f out found) _ _ (sends-ready b C f out found)
+        (λ e. pick-either Tells (completionDue (x .setup) b (new b C f out found)) _ _ (λ q. tt) (λ q. tt))
 
     share-tells : (p : Pair) → Tells (shareStep (heard x 4 (sender - 1)) (sender - 1) p)
     unfolding shareStep recovering heard
@@ -144,7 +142,7 @@ module _ (x : Record) where
 
     -- a message by its tag
     abbrev says : Message
-    says = messageIn (x .setup .k) bytes
+    says = messageIn (x .setup) bytes
 
     module _ (e : number x g sender bytes lent ≡ 0) where
       abbrev came : Passed x sender bytes
@@ -153,18 +151,18 @@ module _ (x : Record) where
       message-tells : Tells (messageStep x (sender - 1) says)
       unfolding sendStep heard
       message-tells =
-          by-tag k bytes (came .form)
-          (λ h. of _ (is-send k bytes h) (bytes, came .passes (omega arith), rw (is-send k bytes h) at (came .check), refl))
-          (λ h. of _ (is-echo k bytes h)
-          (step-tells byEcho _ _ (out-message x g sender bytes lent e _ (is-echo k bytes h))
-          (room-echo x (sender - 1) _ (facts-sound x (g .facts)) (came .within) (rw h at (came .unheard)))))
-          (λ h. of _ (is-ready k bytes h)
-          (step-tells byReady _ _ (out-message x g sender bytes lent e _ (is-ready k bytes h))
-          (room-ready x (sender - 1) _ (facts-sound x (g .facts)) (came .within) (rw h at (came .unheard)))))
-          (λ h. of _ (is-recovery k bytes h) (share-tells (pairIn bytes)))
+          by-tag u bytes (came .hearing .form)
+          (λ h. of _ (is-send u bytes h) (bytes, came .passes (omega arith), rw (is-send u bytes h) at (came .check), refl))
+          (λ h. of _ (is-echo u bytes h)
+          (step-tells ByEcho _ _ (out-message x g sender bytes lent e _ (is-echo u bytes h))
+          (room x (sender - 1) _ (facts-sound x (g .facts)) (came .hearing .within) ByEcho (rw h at (came .hearing .unheard)))))
+          (λ h. of _ (is-ready u bytes h)
+          (step-tells ByReady _ _ (out-message x g sender bytes lent e _ (is-ready u bytes h))
+          (room x (sender - 1) _ (facts-sound x (g .facts)) (came .hearing .within) ByReady (rw h at (came .hearing .unheard)))))
+          (λ h. of _ (is-recovery u bytes h) (share-tells (pairIn bytes)))
         where
-          k : ℕ
-          k = x .setup .k
+          u : SetUp
+          u = x .setup
 
           of : (msg : Message) → says ≡ msg → Tells (messageStep x (sender - 1) msg) → Tells (messageStep x (sender - 1) says)
           of msg h = subst (λ (m : Message). Tells (messageStep x (sender - 1) m)) (sym h)
@@ -173,7 +171,7 @@ module _ (x : Record) where
     unfolding doing deliver
     gets-spoken =
         answered-holds (Spoken (x .setup) x it) (number x g sender bytes lent)
-        (messageStep x (sender - 1) says) (refusalHeard (number x g sender bytes lent) x sender bytes)
+        (messageStep x (sender - 1) says) (refusalHeard (firstRow (deliverRows x sender bytes (length {A = ℕ} (replicate lent 0))) .marks) x sender bytes)
         (replicate lent 0) tt message-tells
 
 -- What any call on a good record has sent.

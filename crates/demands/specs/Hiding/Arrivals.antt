@@ -16,7 +16,7 @@ use Rattle.rules.specs.Messages.{Message, send, echo, ready, recovery, tagOf, f
 use Rattle.rules.specs.Answers.{exponentsKeep}
 use Rattle.rules.specs.Laws.RoundTrip.{SetUpFits, message-formed, message-ours, message-there, matrixPart, matrix-there}
 use Rattle.demands.specs.Histories.{own, keeps}
-use Rattle.demands.specs.Hiding.Moves.{Twice, numbers, inSet, q, dealt, zed, movedMessage}
+use Rattle.demands.specs.Hiding.Moves.{Twice, numbers, inSet, dealt, zed, movedMessage}
 use Rattle.demands.specs.Hiding.Hypotheses.{Given, dealer-box, own-fits, zed-on-set}
 use Rattle.demands.specs.Hiding.Unseen.{four-still}
 use Rattle.demands.specs.Hiding.SentTwice.{Proper, moved-tag, proper-fits, moved-proper}
@@ -26,18 +26,18 @@ use Rattle.demands.specs.Hiding.SentTwice.{Proper, moved-tag, proper-fit
 -- for a matrix of a box outside the set there is only the dealt one
 abbrev pub FromSetOrDealt : Twice → ℕ → List ℕ → Type 0
 FromSetOrDealt t from bytes =
-    isBox (numbers t) from ≡ true → tagIn bytes ≤ 3 → (inSet t from ≡ true) ⊎ (matrixIn (numbers t .k) bytes ≡ dealt t)
+    isBox (numbers t) from ≡ true → tagIn bytes ≤ 3 → (inSet t from ≡ true) ⊎ (matrixIn (numbers t) bytes ≡ dealt t)
 
 pub record Arrives (t : Twice) (i from : ℕ) (bytes bytes′ : List ℕ) : Type 0 where
   pub tag : tagIn bytes′ ≡ tagIn bytes
-  pub form : malformed (numbers t .k) bytes′ ≡ malformed (numbers t .k) bytes
+  pub form : malformed (numbers t) bytes′ ≡ malformed (numbers t) bytes
   pub session : foreign (own (numbers t) i) bytes′ ≡ foreign (own (numbers t) i) bytes
-  pub matrix : matrixIn (numbers t .k) bytes′ ≡ matrixIn (numbers t .k) bytes
-  pub exponents : exponentsKeep (q t) (numbers t .k) (messageIn (numbers t .k) bytes′)
-      ≡ exponentsKeep (q t) (numbers t .k) (messageIn (numbers t .k) bytes)
+  pub matrix : matrixIn (numbers t) bytes′ ≡ matrixIn (numbers t) bytes
+  pub exponents : exponentsKeep (numbers t) (messageIn (numbers t) bytes′)
+      ≡ exponentsKeep (numbers t) (messageIn (numbers t) bytes)
   pub says : isBox (numbers t) from ≡ true → (tagIn bytes ≡ 1 → from ≡ numbers t .d)
-      → exponentsKeep (q t) (numbers t .k) (messageIn (numbers t .k) bytes) ≡ true
-      → messageIn (numbers t .k) bytes′ ≡ movedMessage t from i (messageIn (numbers t .k) bytes)
+      → exponentsKeep (numbers t) (messageIn (numbers t) bytes) ≡ true
+      → messageIn (numbers t) bytes′ ≡ movedMessage t from i (messageIn (numbers t) bytes)
   pub whose : FromSetOrDealt t from bytes
 
 module _ (t : Twice) (h : Given t) (i from : ℕ) where
@@ -49,21 +49,21 @@ module _ (t : Twice) (h : Given t) (i from : ℕ) where
     in-set b = not-false _ (and-rest (isBox (numbers t) from) _ not-keeping b)
 
     nothing-moves : isBox (numbers t) from ≡ true → (tagIn bytes ≡ 1 → from ≡ numbers t .d)
-        → exponentsKeep (q t) (numbers t .k) (messageIn (numbers t .k) bytes) ≡ true
-        → messageIn (numbers t .k) bytes ≡ movedMessage t from i (messageIn (numbers t .k) bytes)
+        → exponentsKeep (numbers t) (messageIn (numbers t) bytes) ≡ true
+        → messageIn (numbers t) bytes ≡ movedMessage t from i (messageIn (numbers t) bytes)
     unfolding messageIn
     nothing-moves b d =
-        let k = numbers t .k in
-        pick-either Still (eqb (tagIn bytes) 1) (send (matrixIn k bytes) (polynomialsIn k bytes)) _
+        let u = numbers t in
+        pick-either Still (eqb (tagIn bytes) 1) (send (matrixIn u bytes) (polynomialsIn u bytes)) _
         (λ e below. absurd (true≢false (sym (in-set b) ∙ ap (inSet t) (d (eqb-true _ 1 e)) ∙ h .dealer)))
-        (λ e1. pick-either Still (eqb (tagIn bytes) 2) (echo (matrixIn k bytes) (fourIn k bytes)) _
-        (λ e below. ap (echo (matrixIn k bytes)) (sym (four-still t h _ (fourIn k bytes) none below)))
-        (λ e2. pick-either Still (eqb (tagIn bytes) 3) (ready (matrixIn k bytes) (fourIn k bytes)) (recovery (pairIn bytes))
-        (λ e below. ap (ready (matrixIn k bytes)) (sym (four-still t h _ (fourIn k bytes) none below)))
+        (λ e1. pick-either Still (eqb (tagIn bytes) 2) (echo (matrixIn u bytes) (fourIn u bytes)) _
+        (λ e below. ap (echo (matrixIn u bytes)) (sym (four-still t h _ (fourIn u bytes) none below)))
+        (λ e2. pick-either Still (eqb (tagIn bytes) 3) (ready (matrixIn u bytes) (fourIn u bytes)) (recovery (pairIn bytes))
+        (λ e below. ap (ready (matrixIn u bytes)) (sym (four-still t h _ (fourIn u bytes) none below)))
         (λ e3 below. refl)))
       where
         Still : Message → Type 0
-        Still m = exponentsKeep (q t) (numbers t .k) m ≡ true → m ≡ movedMessage t from i m
+        Still m = exponentsKeep (numbers t) m ≡ true → m ≡ movedMessage t from i m
 
         none : zed t from * zed t i ≡ 0
         none = ap (λ v. v * zed t i) (zed-on-set t h from b (in-set b)) ∙ omega arith
@@ -86,7 +86,7 @@ module _ (t : Twice) (h : Given t) (i from : ℕ) where
   fits-setup = let c = own-fits t h (numbers t .d) (dealer-box t h) in record { k = c .k; d = c .d; session = c .session }
 
   proper-matrix : (m : Message) → Proper t from m
-      → (tagOf m ≤ 3) × (matrixPart m ≡ dealt t) × (exponentsKeep (q t) (numbers t .k) m ≡ true)
+      → (tagOf m ≤ 3) × (matrixPart m ≡ dealt t) × (exponentsKeep (numbers t) m ≡ true)
   unfolding tagOf
   proper-matrix (send C P) p = (omega arith, p .1, p .2)
   proper-matrix (echo C f) p = (omega arith, p .0, p .1)
@@ -105,7 +105,6 @@ module _ (t : Twice) (h : Given t) (i from : ℕ) where
       → Arrives t i from (bytesOf (numbers t) m) (bytesOf (numbers t) (movedMessage t from i m))
   handed-on m p =
       let u = numbers t in
-      let k = numbers t .k in
       let m′ : Message = movedMessage t from i m in
       let p′ : Proper t from m′ = moved-proper t h from i m p in
       let c = proper-matrix m p in
@@ -120,7 +119,7 @@ module _ (t : Twice) (h : Given t) (i from : ℕ) where
         form = message-formed u m′ fits-setup ∙ sym (message-formed u m fits-setup);
         session = own-ours m′ ∙ sym (own-ours m);
         matrix = matrix-there u m′ (c′ .0) f′ ∙ c′ .1 ∙ sym C;
-        exponents = ap (exponentsKeep (q t) k) r′ ∙ c′ .2 ∙ sym (ap (exponentsKeep (q t) k) r ∙ c .2);
+        exponents = ap (exponentsKeep u) r′ ∙ c′ .2 ∙ sym (ap (exponentsKeep u) r ∙ c .2);
         says = λ b d e. r′ ∙ ap (movedMessage t from i) (sym r);
         whose = λ b l. inr C;
       }

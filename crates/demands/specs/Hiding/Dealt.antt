@@ -16,21 +16,22 @@ use Rattle.rules.specs.declared.SetUp.{SetUp}
 use Rattle.rules.specs.Numbers.{exponent}
 use Rattle.rules.specs.Matrices.{coefficient}
 use Rattle.rules.specs.Messages.{send, tagOf, bytesOf}
-use Rattle.rules.specs.Dealing.{polynomialsBelow}
+use Rattle.rules.specs.Dealing.{polynomialsBelow, coinsKeep, fOf, f′Of, fromCoins}
 use Rattle.rules.specs.Record.{sound}
 use Rattle.rules.specs.Steps.{dealStep}
-use Rattle.rules.specs.Answers.{firstOf, dealRows, deal}
+use Rattle.rules.specs.Answers.{firstOf, dealRows, deal, ownDealRows, Refusal, firstRow}
 use Rattle.rules.specs.Laws.Matrices.{row-same}
 use Rattle.rules.specs.Laws.RoundTrip.{PolynomialFits, PolynomialsFit}
 use Rattle.rules.specs.Laws.Ranges.{dealt-rooms}
-use Rattle.rules.specs.Laws.Kept.{deal-passed}
+use Rattle.rules.specs.Laws.Passed.{deal-passed}
 use Rattle.demands.specs.Histories.{own}
 use Rattle.demands.specs.Sharing.{dealtTo, send-passes}
 use Rattle.demands.specs.Matching.{z}
 use Rattle.demands.specs.Hiding.Moves.{Twice, numbers, inSet, q, coins′, dealt, zed, shifted, shifted′, movedBy, movedPolynomials, movedRecord}
 use Rattle.demands.specs.Hiding.Hypotheses.{Given, sound-numbers, size, coins-keep′, same-matrix, dealt-moves}
 use Rattle.demands.specs.Hiding.Steps.{MovedStep, own-each, each-same}
-use Rattle.demands.specs.Hiding.Outcomes.{DoneAlike, answered-alike, row-alike}
+use Rattle.demands.specs.Hiding.Outcomes.{DoneAlike, answered-alike, row-alike, call-alike}
+use lib.ListN.{length}
 
 module _ (t : Twice) (h : Given t) where
   -- ---- the polynomials
@@ -67,7 +68,7 @@ module _ (t : Twice) (h : Given t) where
     below j = send-passes (numbers t) (sound-numbers t h) (t .s) (t .coins) (h .coins-keep) j .1
 
     deal-step : i ≡ numbers t .d → MovedStep t i (dealStep x (t .s) (t .coins)) (dealStep (movedRecord t i x) (t .s′) (coins′ t))
-    unfolding dealStep tagOf
+    unfolding dealStep fOf f′Of fromCoins tagOf
     deal-step e =
         record {
           after = refl;
@@ -88,22 +89,21 @@ module _ (t : Twice) (h : Given t) where
     -- ---- the deal
 
     rows-same : sound x ≡ true → sound (movedRecord t i x) ≡ true → (buffer : List ℕ)
-        → firstOf (dealRows x (t .s) (t .coins) buffer) ≡ firstOf (dealRows (movedRecord t i x) (t .s′) (coins′ t) buffer)
-    unfolding dealRows
+        → firstRow (dealRows x (t .s) (t .coins) (length buffer)) ≡ firstRow (dealRows (movedRecord t i x) (t .s′) (coins′ t) (length buffer))
+    unfolding dealRows ownDealRows coinsKeep
     rows-same hx hy buffer =
-        row-alike 15 _ _ _ _ refl (λ z15.
-        row-alike 12 _ _ _ _ (ap not (hx ∙ sym hy)) (λ z12.
-        row-alike 13 _ _ _ _ refl (λ z13.
-        row-alike 14 _ _ _ _ (rw own-setup (ap not (h .coins-keep ∙ sym (coins-keep′ t h)))) (λ z14. refl))))
+        call-alike x _ (length buffer) _ _ hx hy
+        (row-alike _ _ _ _ refl refl refl (λ z13.
+        row-alike _ _ _ _ refl refl (rw own-setup (ap not (h .coins-keep ∙ sym (coins-keep′ t h)))) (λ z14. refl)))
 
-    by-dealer : (buffer : List ℕ) → firstOf (dealRows x (t .s) (t .coins) buffer) ≡ 0 → i ≡ numbers t .d
+    by-dealer : (buffer : List ℕ) → firstOf (dealRows x (t .s) (t .coins) (length buffer)) ≡ 0 → i ≡ numbers t .d
     by-dealer buffer e =
         eqb-true i (numbers t .d)
-        (subst (λ (u : SetUp). eqb (u .i) (u .d) ≡ true) own-setup (deal-passed x (t .s) (t .coins) buffer e .dealer))
+        (subst (λ (u : SetUp). eqb (u .i) (u .d) ≡ true) own-setup (deal-passed x (t .s) (t .coins) (length buffer) e .dealer))
 
     pub deal-alike : sound x ≡ true → sound (movedRecord t i x) ≡ true → (buffer : List ℕ)
         → DoneAlike t i (deal x (t .s) (t .coins) buffer) (deal (movedRecord t i x) (t .s′) (coins′ t) buffer)
     unfolding deal
     deal-alike hx hy buffer =
         answered-alike t i _ _ _ _ x (movedRecord t i x) buffer
-        (rows-same hx hy buffer) (λ e. deal-step (by-dealer buffer e)) (λ e. refl)
+        (ap (λ (r : Refusal). r .number) (rows-same hx hy buffer)) (λ e. deal-step (by-dealer buffer e)) (λ e. refl)

@@ -13,7 +13,7 @@ use Rattle.rules.specs.declared.Polynomials.{Polynomials}
 use Rattle.rules.specs.Numbers.{groupKeeps, sizesKeep, isBox, numbersKeep}
 use Rattle.rules.specs.Matrices.{coefficient}
 use Rattle.rules.specs.Dealing.{coinsKeep, committed}
-use Rattle.rules.specs.Answers.{setUp, setUpRows, firstOf, outcomeOf, accepted}
+use Rattle.rules.specs.Answers.{setUp, setUpRows, outcomeOf, accepted, firstRow}
 use Rattle.rules.specs.Laws.Numbers.{Sizes, is-box}
 use Rattle.rules.specs.Laws.RoundTrip.{SetUpFits, setup-fits}
 use Rattle.demands.specs.Histories.{own}
@@ -31,7 +31,7 @@ pub record Given (t : Twice) : Type 0 where
   pub dealer : inSet t (numbers t .d) ≡ false
   pub low : t .s < q t
   pub low′ : t .s′ < q t
-  pub coins-keep : coinsKeep (q t) (numbers t .k) (t .s) (t .coins) ≡ true
+  pub coins-keep : coinsKeep (numbers t) (t .s) (t .coins) ≡ true
 
 -- ---- the numbers
 
@@ -69,7 +69,7 @@ module _ (t : Twice) (h : Given t) where
   own-fits i e = setup-fits (own (numbers t) i) (own-keeps i e)
 
   pub own-taken : (i : ℕ) → isBox (numbers t) i ≡ true → setUp (own (numbers t) i) .answer .no ≡ 0
-  unfolding setUp setUpRows firstOf outcomeOf accepted groupKeeps
+  unfolding setUp setUpRows firstRow outcomeOf accepted groupKeeps
   own-taken i e = rw (h .group-keeps, own-keeps i e)
 
   -- ---- the matching coins
@@ -83,7 +83,7 @@ module _ (t : Twice) (h : Given t) where
   pub unseen : (w x y : ℕ) → committed (group (numbers t)) (shifted t w x) (shifted′ t w y) ≡ committed (group (numbers t)) x y
   unseen w x y = move-unseen (numbers t) sound-numbers (inSet t) (h .few) (t .s) (t .s′) (h .low) (h .low′) x y w
 
-  pub coins-keep′ : coinsKeep (q t) (numbers t .k) (t .s′) (coins′ t) ≡ true
+  pub coins-keep′ : coinsKeep (numbers t) (t .s′) (coins′ t) ≡ true
   coins-keep′ = matching-keeps (numbers t) sound-numbers (inSet t) (h .few) (t .s) (t .s′) (h .low) (h .low′) (t .coins) (h .coins-keep)
 
   pub same-matrix : dealtMatrix (numbers t) (t .s′) (coins′ t) ≡ dealt t

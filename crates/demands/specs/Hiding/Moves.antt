@@ -28,7 +28,7 @@ use Rattle.rules.specs.Numbers.{exponent}
 use Rattle.rules.specs.Matrices.{row, coefficient, α, α′, β, β′}
 use Rattle.rules.specs.Messages.{Message, send, echo, ready, recovery}
 use Rattle.rules.specs.Record.{silent, noSlot, slotAt, placeAt}
-use Rattle.rules.specs.Steps.{Said, withSlots, pointAt, points}
+use Rattle.rules.specs.Steps.{Said, withSlots, heldAt, points}
 use Rattle.demands.specs.Histories.{Class}
 use Rattle.demands.specs.Sharing.{order, dealtMatrix}
 use Rattle.demands.specs.Matching.{z, zAt, difference, difference′, matching}
@@ -148,15 +148,15 @@ module _ (t : Twice) where
 
 -- its points, and the k lowest of them
 module _ (t : Twice) (i : ℕ) (slot : Slot) where
-  point-moved : (m : ℕ) (p : Point) → pointAt m (movedPoint t (zed t i * zed t (m + 1)) p) ≡ map (movedSaid t i) (pointAt m p)
+  point-moved : (m : ℕ) (p : Point) → heldAt m (movedPoint t (zed t i * zed t (m + 1)) p) ≡ map (movedSaid t i) (heldAt m p)
   point-moved m Silent = refl
   point-moved m (Held f) = refl
 
   pub points-moved : points (movedSlot t i slot .places) ≡ map (movedSaid t i) (points (slot .places))
   unfolding points
   points-moved =
-      gather-same _ _ 10 (λ m l. ap (λ (p : Place). pointAt m (p .point)) (place-moved t i slot m) ∙ point-moved m (placeAt slot m .point))
-      ∙ sym (map-gather (movedSaid t i) (λ m. pointAt m (getD (slot .places) m silent .point)) 10)
+      gather-same _ _ 10 (λ m l. ap (λ (p : Place). heldAt m (p .point)) (place-moved t i slot m) ∙ point-moved m (placeAt slot m .point))
+      ∙ sym (map-gather (movedSaid t i) (λ m. heldAt m (getD (slot .places) m silent .point)) 10)
 
   pub lowest-moved : (k : ℕ) → take k (points (movedSlot t i slot .places)) ≡ map (movedSaid t i) (take k (points (slot .places)))
   lowest-moved k = ap (take k) points-moved ∙ sym (map-take (movedSaid t i) k (points (slot .places)))

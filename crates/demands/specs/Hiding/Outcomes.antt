@@ -3,22 +3,24 @@
 -- In order: what two calls come to; rows that come out alike.
 -- Assumes nothing.
 use mathlib.Core.Path.{_≡_, refl, sym, ap, _∙_}
-use mathlib.Core.Bool.{Bool, true, false}
+use mathlib.Core.Bool.{Bool, true, false, not}
 use mathlib.Core.Logic.{_⊎_, inl, inr}
-use mathlib.Core.List.{List, _∷_}
+use mathlib.Core.List.{List, _∷_, _++_}
 use Prim.Native.Nat.{ℕ}
 use native.Mathlib.Decide.{ℕ-discrete}
 use lib.ListN.{length}
 use Rattle.rules.specs.declared.Record.{Record}
 use Rattle.rules.specs.Messages.{written}
 use Rattle.rules.specs.Steps.{Step}
-use Rattle.rules.specs.Answers.{Refusal, _when_, firstOf, Done, done, accepted, refused, answered}
+use Rattle.rules.specs.Answers.{Refusal, Done, done, accepted, refused, answered, callRows, firstRow}
 use Rattle.rules.specs.Laws.DemandOne.{answered-accepted, answered-refused}
 use Rattle.rules.specs.Laws.Lengths.{take-written}
 use Rattle.demands.specs.Histories.{wrote}
 use Rattle.demands.specs.Hiding.Moves.{Twice, movedRecord}
 use Rattle.demands.specs.Hiding.SentTwice.{Twin, twin-length}
 use Rattle.demands.specs.Hiding.Steps.{SentAlike, MovedStep}
+use Rattle.rules.specs.Record.{sound}
+use Rattle.folds.specs.Tests.{pick}
 
 -- ---- what two calls come to
 
@@ -61,8 +63,21 @@ answered-alike t i n n′ st st′ after after′ buffer same taken refusal = rw
 -- ---- the rows of the table
 
 -- rows that come out alike, each where those before it do not hold
-pub row-alike : (n : ℕ) (b b′ : Bool) (rows rows′ : List Refusal) → b ≡ b′ → (b ≡ false → firstOf rows ≡ firstOf rows′)
-    → firstOf (n when b ∷ rows) ≡ firstOf (n when b′ ∷ rows′)
-unfolding firstOf
-row-alike n true b′ rows rows′ e rest = rw (← e)
-row-alike n false b′ rows rows′ e rest = rw (← e) (rest refl)
+pub row-alike : (r r′ : Refusal) (rows rows′ : List Refusal) → r .number ≡ r′ .number → r .marks ≡ r′ .marks → r .holds ≡ r′ .holds
+    → (r .holds ≡ false → firstRow rows ≡ firstRow rows′) → firstRow (r ∷ rows) ≡ firstRow (r′ ∷ rows′)
+unfolding firstRow
+row-alike r r′ rows rows′ n m h rest = ap (λ (x : Refusal). pick (x .holds) x (firstRow rows)) row-same ∙ go (r′ .holds) h
+  where
+    row-same : r ≡ r′
+    row-same = λ i. record { number = n i; holds = h i; marks = m i }
+
+    go : (b : Bool) → r .holds ≡ b → pick b r′ (firstRow rows) ≡ pick b r′ (firstRow rows′)
+    go true e = refl
+    go false e = rest e
+
+-- those of every call, of two sound records
+pub call-alike : (x x′ : Record) (lent : ℕ) (rows rows′ : List Refusal) → sound x ≡ true → sound x′ ≡ true → firstRow rows ≡ firstRow rows′
+    → firstRow (callRows x lent ++ rows) ≡ firstRow (callRows x′ lent ++ rows′)
+unfolding callRows
+call-alike x x′ lent rows rows′ hx hy rest =
+    row-alike _ _ _ _ refl refl refl (λ z15. row-alike _ _ _ _ refl refl (ap not (hx ∙ sym hy)) (λ z12. rest))

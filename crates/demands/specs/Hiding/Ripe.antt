@@ -9,7 +9,7 @@ use mathlib.Core.List.{List, [], _∷_}
 use Prim.Native.Nat.{ℕ, _+_, _-_, _<_, _≤_}
 use native.Mathlib.Omega.{arith}
 use lib.Dec.{eqb}
-use lib.ListN.{replicate}
+use lib.ListN.{replicate, length}
 use borrow.Author.Tests.{eqb-true}
 use Rattle.folds.specs.Tests.{and-left, and-right, or-cases, decide, pick-either, true≢false, false-unless}
 use Rattle.folds.specs.Below.{countBelow, countBelow-mono, countBelow-beyond, passes-below}
@@ -23,15 +23,16 @@ use Rattle.rules.specs.declared.Slot.{Slot}
 use Rattle.rules.specs.Numbers.{isBox}
 use Rattle.rules.specs.Messages.{tagIn, matrixIn}
 use Rattle.rules.specs.Record.{slotAt, isHeld, held, matrixOf, sameMatrix, isThere}
-use Rattle.rules.specs.Steps.{slotFor, opened, keeping}
+use Rattle.rules.specs.Steps.{slotFor, opened, keeping, taken}
 use Rattle.rules.specs.Answers.{setUp, firstOf, accepted, deliverRows}
 use Rattle.rules.specs.Laws.Numbers.{box-is}
-use Rattle.rules.specs.Laws.Facts.{Side, byEcho, byReady, SlotFacts}
+use Rattle.rules.specs.declared.Side.{Side}
+use Rattle.rules.specs.declared.Side.the-variants.{ByEcho, ByReady}
+use Rattle.rules.specs.Laws.Facts.{SlotFacts}
 use Rattle.rules.specs.Laws.Sound.{agree-comm, facts-sound}
 use Rattle.rules.specs.Laws.RoundTrip.{is-echo, is-ready}
-use Rattle.rules.specs.Laws.Room.{room-echo, room-ready, Found}
-use Rattle.rules.specs.Laws.Kept.{Passed}
-use Rattle.rules.specs.Laws.Kept.TakenSlot.{taken}
+use Rattle.rules.specs.Laws.Room.{Found, room}
+use Rattle.rules.specs.Laws.Passed.{Passed}
 use Rattle.rules.specs.Laws.Kept.Changes.{Good}
 use Rattle.demands.specs.Histories.{Call, deals, gets, commanded, own, doing, after}
 use Rattle.demands.specs.Lives.{checksNow, takesNow, said, life-sound, places-say}
@@ -46,6 +47,7 @@ use Rattle.demands.specs.Hiding.Hypotheses.{Given, size, own-taken}
 use Rattle.demands.specs.Hiding.Steps.{Ripe}
 use Rattle.demands.specs.Hiding.Arrivals.{FromSetOrDealt}
 use Rattle.demands.specs.Hiding.Deliveries.{RipeIfSent}
+use Rattle.demands.specs.Own.{own-matrix}
 
 -- ---- calls that keep to this
 
@@ -73,8 +75,9 @@ module _ (t : Twice) (h : Given t) (i : ℕ) (box-i : isBox (numbers t) i ≡ tr
       let e3 = and-right (eqb (tagIn bytes) tag) _ e2 in
       let sender : from ≡ m = eqb-true from m (and-left _ _ e1) in
       let it : tagIn bytes ≡ tag = eqb-true (tagIn bytes) tag (and-left _ _ e2) in
-      let same : sameMatrix (numbers t .k) (matrixIn (numbers t .k) bytes) C ≡ true =
-      subst (λ (v : SetUp). sameMatrix (v .k) (matrixIn (v .k) bytes) C ≡ true) (life-sound u (own-taken t h i box-i) cs .2) e3 in
+      let same : sameMatrix (numbers t .k) (matrixIn (numbers t) bytes) C ≡ true =
+      subst (λ (D : List (List Element)). sameMatrix (numbers t .k) D C ≡ true) (own-matrix (numbers t) i bytes)
+      (subst (λ (v : SetUp). sameMatrix (v .k) (matrixIn v bytes) C ≡ true) (life-sound u (own-taken t h i box-i) cs .2) e3) in
       ⊎-elim
       (λ w. inl (sym (ap (inSet t) sender) ∙ w))
       (λ w. inr (subst (λ (D : List (List Element)). sameMatrix (numbers t .k) D C ≡ true) w same))
@@ -168,7 +171,7 @@ module _ (t : Twice) (h : Given t) (i : ℕ) (box-i : isBox (numbers t) i ≡ tr
           v
 
   -- an echo or a ready by which ready is sent
-  module _ (n : firstOf (deliverRows x from bytes (replicate lent 0)) ≡ 0) where
+  module _ (n : firstOf (deliverRows x from bytes (length {A = ℕ} (replicate lent 0))) ≡ 0) where
     abbrev g : Good x
     g = good me taken-up cs
 
@@ -183,9 +186,9 @@ module _ (t : Twice) (h : Given t) (i : ℕ) (box-i : isBox (numbers t) i ≡ tr
         subst (Ripe t) slot (ripe-next (slotFor x C) (found .within) (ap (λ (v : Slot). isThere (v .pair .kept)) slot))
 
     pub ripe-if-sent : RipeIfSent t x from bytes
-    ripe-if-sent byEcho e =
-        sent byEcho _ _ (out-message x g from bytes lent n _ (is-echo (x .setup .k) bytes e))
-        (room-echo x (from - 1) _ (facts-sound x (g .facts)) (came .within) (rw e at (came .unheard)))
-    ripe-if-sent byReady e =
-        sent byReady _ _ (out-message x g from bytes lent n _ (is-ready (x .setup .k) bytes e))
-        (room-ready x (from - 1) _ (facts-sound x (g .facts)) (came .within) (rw e at (came .unheard)))
+    ripe-if-sent ByEcho e =
+        sent ByEcho _ _ (out-message x g from bytes lent n _ (is-echo (x .setup) bytes e))
+        (room x (from - 1) _ (facts-sound x (g .facts)) (came .hearing .within) ByEcho (rw e at (came .hearing .unheard)))
+    ripe-if-sent ByReady e =
+        sent ByReady _ _ (out-message x g from bytes lent n _ (is-ready (x .setup) bytes e))
+        (room x (from - 1) _ (facts-sound x (g .facts)) (came .hearing .within) ByReady (rw e at (came .hearing .unheard)))

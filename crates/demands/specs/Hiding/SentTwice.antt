@@ -60,7 +60,7 @@ module _ (t : Twice) (h : Given t) where
   unfolding movedBy
   side-fits d j a = remainders-room (numbers t) (h .group-keeps) (size t h .high) _
 
-  pub proper-fits : (i : ℕ) (m : Message) → Proper t i m → Fits (numbers t .k) m
+  pub proper-fits : (i : ℕ) (m : Message) → Proper t i m → Fits (numbers t) m
   proper-fits i (send C P) p = (rw (p .1) dealt-fits, p .3)
   proper-fits i (echo C f) p = (rw (p .0) dealt-fits, four-fits f (p .1))
   proper-fits i (ready C f) p = (rw (p .0) dealt-fits, four-fits f (p .1))
@@ -93,7 +93,7 @@ module _ (t : Twice) (h : Given t) where
         (ltb-true _ _ (allBelow-at _ (numbers t .k) l b lt))))
 
     polynomials-still : (P : Polynomials) → polynomialsBelow (q t) (numbers t .k) P ≡ true
-        → polynomialBytes (numbers t .k) (movedPolynomials t j P) ≡ polynomialBytes (numbers t .k) P
+        → polynomialBytes (numbers t) (movedPolynomials t j P) ≡ polynomialBytes (numbers t) P
     unfolding polynomialBytes polynomialsBelow
     polynomials-still P b =
         let b1 = and-right (coefficientsBelow (q t) (numbers t .k) (P .a)) _ b in

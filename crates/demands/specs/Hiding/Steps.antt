@@ -8,7 +8,7 @@ use mathlib.Core.Logic.{_⊎_, inl, inr}
 use mathlib.Core.List.{List, [], _∷_, _++_, map}
 use Prim.Native.Nat.{ℕ, _+_, _*_}
 use native.Mathlib.Nat.{zero-add}
-use lib.Dec.{eqb, ltb}
+use lib.Dec.{ltb}
 use lib.ListN.{set, take}
 use Rattle.folds.specs.Tests.{_and_, pick, pick-two}
 use Rattle.folds.specs.Below.{firstFrom-same}
@@ -27,18 +27,19 @@ use Rattle.rules.specs.declared.Slot.{Slot}
 use Rattle.rules.specs.Matrices.{zeroFour}
 use Rattle.rules.specs.Messages.{Message, echo, ready, twoBytes, matrixBytes, fourBytes, tagOf, bodyOf, framed, bytesOf, toEach}
 use Rattle.rules.specs.Record.{slotAt, placeAt, matrixOf, countE, countR, sameMatrix, zeroSlot}
-use Rattle.rules.specs.Steps.{withSlots, Said, pairFrom, readyFour, echoFour, points, ownSlot, freeSlot, slotFor, opened, firstPoint, holding, echoed, readied, keeping, Step, quiet, sendStep, withSlot, readySent, lowest, echoAt, echoStep, completing, completed, readyAt, readyStep}
+use Rattle.rules.specs.Steps.{withSlots, Said, pairFrom, readyFour, echoFour, points, ownSlot, freeSlot, slotFor, opened, firstPoint, holding, keeping, Step, quiet, sendStep, withSlot, readySent, lowest, completing, completed, completionDue, pointAt, pointStep, taken, readyDue}
 use Rattle.rules.specs.Laws.Checks.{echo-below, ready-below}
-use Rattle.rules.specs.Laws.Facts.{Side, byEcho, byReady}
+use Rattle.rules.specs.declared.Side.{Side}
+use Rattle.rules.specs.declared.Side.the-variants.{ByEcho, ByReady}
 use Rattle.rules.specs.Laws.Sound.{agree-at}
 use Rattle.rules.specs.Laws.Kept.OpenSlot.{fresh}
-use Rattle.rules.specs.Laws.Kept.TakenSlot.{taken, firstAt}
 use Rattle.demands.specs.Histories.{own}
 use Rattle.demands.specs.Sharing.{Different}
 use Rattle.demands.specs.Hiding.Moves.{Twice, numbers, q, dealt, zed, movedFour, movedPair, movedPolynomials, movedPoint, movedPlace, movedSaid, movedSlot, movedRecord, slot-moved, place-moved, lowest-moved}
 use Rattle.demands.specs.Hiding.Hypotheses.{Given, q-some}
 use Rattle.demands.specs.Hiding.Values.{echo-moved, ready-moved, pair-moved}
 use Rattle.demands.specs.Hiding.SentTwice.{Twin}
+use Rattle.demands.specs.Own.{own-bytes}
 
 -- ---- two steps alike
 
@@ -119,15 +120,10 @@ module _ (t : Twice) (i : ℕ) where
       ∙ ap (λ (j : ℕ). put (movedPlace t i j new .point)) (sym (zero-add m))
       ∙ sym (mapFrom-set (movedPlace t i) (slot .places) 0 m new)
 
-  echoed-moved : (slot : Slot) (m : ℕ) (f : Four)
-      → echoed (movedSlot t i slot) m (movedFour t (zed t i * zed t (m + 1)) f) ≡ movedSlot t i (echoed slot m f)
-  unfolding echoed movedSlot
-  echoed-moved slot m f = rw (holding-moved slot m f)
-
-  readied-moved : (slot : Slot) (m : ℕ) (f : Four)
-      → readied (movedSlot t i slot) m (movedFour t (zed t i * zed t (m + 1)) f) ≡ movedSlot t i (readied slot m f)
-  unfolding readied movedSlot
-  readied-moved slot m f = rw (holding-moved slot m f)
+  taken-moved : (b : Side) (slot : Slot) (m : ℕ) (f : Four)
+      → taken b (movedSlot t i slot) m (movedFour t (zed t i * zed t (m + 1)) f) ≡ movedSlot t i (taken b slot m f)
+  unfolding movedSlot
+  taken-moved b slot m f = rw (holding-moved slot m f)
 
   keeping-moved : (slot : Slot) (p : Pair) → keeping (movedSlot t i slot) (movedPair t (zed t i * zed t 0) p) ≡ movedSlot t i (keeping slot p)
   unfolding keeping movedSlot
@@ -136,8 +132,8 @@ module _ (t : Twice) (i : ℕ) where
 -- ---- what is sent
 
 pub own-each : (u : SetUp) (i : ℕ) (f : ℕ → Message) → toEach (own u i) f ≡ toEach u f
-unfolding toEach bytesOf
-own-each u i f = refl
+unfolding toEach
+own-each u i f = gather-same _ _ (u .n) (λ j l. own-bytes u i (f (j + 1)))
 
 pub each-same : (u : SetUp) (f g : ℕ → Message) → ((j : ℕ) → bytesOf u (f j) ≡ bytesOf u (g j)) → toEach u f ≡ toEach u g
 unfolding toEach
@@ -223,20 +219,21 @@ module _ (t : Twice) (h : Given t) (i : ℕ) where
         subst (λ (y : Record). MovedStep t i (completed (withSlot x s slot) s) (completed y s)) (sym (slot-put t i x s slot))
         (record { after = refl; sent = refl; completed = refl; recovered = refl; bytes = inl (refl, refl) })
 
-    echo-at : (firstAt (x .setup) byEcho slot ≡ true → Ripe t slot)
-        → MovedStep t i (echoAt x s slot) (echoAt (movedRecord t i x) s (movedSlot t i slot))
-    unfolding echoAt
-    echo-at ripe =
-        rw (e-moved t i slot, r-moved t i slot)
-        (pick-two (MovedStep t i) (firstAt (x .setup) byEcho slot) _ _ _ _ (λ b. ready-sent (ripe b)) (λ b. still-moved))
+    due-moved : (b : Side) → readyDue (x .setup) b (movedSlot t i slot) ≡ readyDue (x .setup) b slot
+    due-moved ByEcho = rw (e-moved t i slot, r-moved t i slot)
+    due-moved ByReady = rw (e-moved t i slot, r-moved t i slot)
 
-    ready-at : (firstAt (x .setup) byReady slot ≡ true → Ripe t slot)
-        → MovedStep t i (readyAt x s slot) (readyAt (movedRecord t i x) s (movedSlot t i slot))
-    unfolding readyAt
-    ready-at ripe =
-        rw (e-moved t i slot, r-moved t i slot)
-        (pick-two (MovedStep t i) (firstAt (x .setup) byReady slot) _ _ _ _ (λ b. ready-sent (ripe b))
-        (λ b. pick-two (MovedStep t i) (eqb (countR slot) (x .setup .k + x .setup .t)) _ _ _ _ (λ c. done-moved) (λ c. still-moved)))
+    completion-moved : (b : Side) → completionDue (x .setup) b (movedSlot t i slot) ≡ completionDue (x .setup) b slot
+    completion-moved ByEcho = refl
+    completion-moved ByReady = rw (r-moved t i slot)
+
+    point-at : (b : Side) → (readyDue (x .setup) b slot ≡ true → Ripe t slot)
+        → MovedStep t i (pointAt b x s slot) (pointAt b (movedRecord t i x) s (movedSlot t i slot))
+    unfolding pointAt
+    point-at b ripe =
+        rw (due-moved b, completion-moved b)
+        (pick-two (MovedStep t i) (readyDue (x .setup) b slot) _ _ _ _ (λ w. ready-sent (ripe w))
+        (λ w. pick-two (MovedStep t i) (completionDue (x .setup) b slot) _ _ _ _ (λ c. done-moved) (λ c. still-moved)))
 
   -- a message of side b from sender m + 1 is taken into the slot of its matrix
   module _ (x : Record) (e : x .setup ≡ own (numbers t) i) (m : ℕ) (C : List (List Element)) (f : Four) where
@@ -250,24 +247,14 @@ module _ (t : Twice) (h : Given t) (i : ℕ) where
         ∙ opened-moved t i C (slotAt x here)
 
     abbrev pub RipeAt : Side → Type 0
-    RipeAt b = firstAt (x .setup) b (taken b (opened C (slotAt x here)) m f) ≡ true → Ripe t (taken b (opened C (slotAt x here)) m f)
+    RipeAt b = readyDue (x .setup) b (taken b (opened C (slotAt x here)) m f) ≡ true → Ripe t (taken b (opened C (slotAt x here)) m f)
 
-    pub echo-step-moved : RipeAt byEcho
-        → MovedStep t i (echoStep x m C f) (echoStep (movedRecord t i x) m C (movedFour t (zed t i * zed t (m + 1)) f))
-    unfolding echoStep echoed
-    echo-step-moved ripe =
-        let slot : Slot = echoed (opened C (slotAt x here)) m f in
-        subst (MovedStep t i (echoAt x here slot))
-        (sym (ap₂ (λ s v. echoAt (movedRecord t i x) s (echoed v m (movedFour t (zed t i * zed t (m + 1)) f))) (slot-for t i x C) open-here
-        ∙ ap (echoAt (movedRecord t i x) here) (echoed-moved t i (opened C (slotAt x here)) m f)))
-        (echo-at x e here slot ripe)
-
-    pub ready-step-moved : RipeAt byReady
-        → MovedStep t i (readyStep x m C f) (readyStep (movedRecord t i x) m C (movedFour t (zed t i * zed t (m + 1)) f))
-    unfolding readyStep readied
-    ready-step-moved ripe =
-        let slot : Slot = readied (opened C (slotAt x here)) m f in
-        subst (MovedStep t i (readyAt x here slot))
-        (sym (ap₂ (λ s v. readyAt (movedRecord t i x) s (readied v m (movedFour t (zed t i * zed t (m + 1)) f))) (slot-for t i x C) open-here
-        ∙ ap (readyAt (movedRecord t i x) here) (readied-moved t i (opened C (slotAt x here)) m f)))
-        (ready-at x e here slot ripe)
+    pub point-step-moved : (b : Side) → RipeAt b
+        → MovedStep t i (pointStep b x m C f) (pointStep b (movedRecord t i x) m C (movedFour t (zed t i * zed t (m + 1)) f))
+    unfolding pointStep
+    point-step-moved b ripe =
+        let slot : Slot = taken b (opened C (slotAt x here)) m f in
+        subst (MovedStep t i (pointAt b x here slot))
+        (sym (ap₂ (λ s v. pointAt b (movedRecord t i x) s (taken b v m (movedFour t (zed t i * zed t (m + 1)) f))) (slot-for t i x C) open-here
+        ∙ ap (pointAt b (movedRecord t i x) here) (taken-moved t i b (opened C (slotAt x here)) m f)))
+        (point-at x e here slot b ripe)

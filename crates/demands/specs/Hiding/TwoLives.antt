@@ -4,14 +4,14 @@
 -- more; a message that it has sent.
 -- Assumes nothing.
 use mathlib.Core.Path.{_≡_, refl, sym, ap, ap₂, _∙_, subst}
-use mathlib.Core.Bool.{Bool, true, false, not}
+use mathlib.Core.Bool.{Bool, true, false, Bool}
 use mathlib.Core.Logic.{_⊎_, inl, inr, ⊎-elim}
 use mathlib.Core.List.{List, [], _∷_, _++_, append-nil}
-use Prim.Native.Nat.{ℕ, _+_, _-_}
+use Prim.Native.Nat.{ℕ, _-_}
 use lib.Dec.{eqb, ltb}
 use lib.ListN.{length, getD, replicate}
 use borrow.Author.Tests.{eq-eqb, ltb-true}
-use Rattle.folds.specs.Tests.{_and_, _or_, pick, decide, pick-either, true≢false}
+use Rattle.folds.specs.Tests.{pick, decide, pick-either, true≢false}
 use Rattle.folds.specs.Stores.{mapFrom}
 use Rattle.rules.specs.declared.Answer.{Answer}
 use Rattle.rules.specs.declared.Keep.{Keep}
@@ -19,21 +19,21 @@ use Rattle.rules.specs.declared.Record.{Record}
 use Rattle.rules.specs.declared.SetUp.{SetUp}
 use Rattle.rules.specs.declared.Slot.{Slot}
 use Rattle.rules.specs.Numbers.{isBox}
-use Rattle.rules.specs.Messages.{Message, send, echo, ready, recovery, tagIn, hasMatrix, messageIn, bytesOf}
-use Rattle.rules.specs.Record.{countR, sharesKept, zeroSlot, newRecord, sound}
-use Rattle.rules.specs.Steps.{Step, heard, withSlot, withShares, quiet, lowest, sendStep, readySent, echoAt, echoStep, completing, completed, readyAt, readyStep, recovering, shareStep, messageStep, dealStep, recoverStep}
-use Rattle.rules.specs.Answers.{firstOf, Done, accepted, refused, answered, dealRows, deal, recoverRows, recover, deliverRows, refusalHeard, deliver}
+use Rattle.rules.specs.Messages.{Message, send, echo, ready, recovery, tagIn, messageIn, bytesOf}
+use Rattle.rules.specs.Record.{sharesKept, zeroSlot, newRecord, sound}
+use Rattle.rules.specs.Steps.{Step, heard, withSlot, withShares, quiet, lowest, sendStep, readySent, completing, completed, recovering, shareStep, messageStep, dealStep, recoverStep, completionDue, pointAt, pointStep, readyDue}
+use Rattle.rules.specs.Answers.{firstOf, Done, accepted, refused, answered, dealRows, deal, recoverRows, recover, deliverRows, refusalHeard, deliver, ownRecoverRows, Refusal, firstRow}
 use Rattle.rules.specs.Laws.Numbers.{is-box}
 use Rattle.rules.specs.Laws.DemandOne.{answered-accepted, answered-either}
-use Rattle.rules.specs.Laws.Facts.{byEcho, byReady}
-use Rattle.rules.specs.Laws.Kept.TakenSlot.{firstAt}
+use Rattle.rules.specs.declared.Side.{Side}
+use Rattle.rules.specs.declared.Side.the-variants.{ByEcho, ByReady}
 use Rattle.demands.specs.Histories.{Call, deals, gets, commanded, own, doing, after, answers, wrote, sendings, messageTo, messageAt}
 use Rattle.demands.specs.Lives.{life-sound}
 use Rattle.demands.specs.Lives.Born.{born}
 use Rattle.demands.specs.Hiding.Moves.{Twice, numbers, coins′, movedMessage, movedSlot, movedRecord}
 use Rattle.demands.specs.Hiding.Hypotheses.{Given, own-taken}
 use Rattle.demands.specs.Hiding.SentTwice.{Proper, twin-to, Twins, twins-none, twins-more, twins-length, twins-at}
-use Rattle.demands.specs.Hiding.Outcomes.{DoneAlike, answered-alike, row-alike}
+use Rattle.demands.specs.Hiding.Outcomes.{DoneAlike, answered-alike, row-alike, call-alike}
 use Rattle.demands.specs.Hiding.Arrivals.{Arrives}
 use Rattle.demands.specs.Hiding.Deliveries.{deliver-alike}
 use Rattle.demands.specs.Hiding.Dealt.{deal-alike}
@@ -48,18 +48,12 @@ module _ (x : Record) where
   abbrev StepStill : Step → Type 0
   StepStill st = Still (st .after)
 
-  echo-still : (y : Record) (s : ℕ) (slot : Slot) → Still y → StepStill (echoAt y s slot)
-  unfolding echoAt readySent
-  echo-still y s slot e =
-      pick-either StepStill (firstAt (y .setup) byEcho slot) (readySent y s slot (lowest y slot)) (quiet (withSlot y s slot))
-      (λ b. e) (λ b. e)
-
-  ready-still : (y : Record) (s : ℕ) (slot : Slot) → Still y → StepStill (readyAt y s slot)
-  unfolding readyAt readySent completed completing
-  ready-still y s slot e =
-      pick-either StepStill (firstAt (y .setup) byReady slot) (readySent y s slot (lowest y slot)) _ (λ b. e)
-      (λ b. pick-either StepStill (eqb (countR slot) (y .setup .k + y .setup .t))
-      (completed (withSlot y s slot) s) (quiet (withSlot y s slot)) (λ b. e) (λ b. e))
+  point-still : (b : Side) (y : Record) (s : ℕ) (slot : Slot) → Still y → StepStill (pointAt b y s slot)
+  unfolding pointAt readySent completed completing
+  point-still b y s slot e =
+      pick-either StepStill (readyDue (y .setup) b slot) (readySent y s slot (lowest y slot)) _ (λ w. e)
+      (λ w. pick-either StepStill (completionDue (y .setup) b slot)
+      (completed (withSlot y s slot) s) (quiet (withSlot y s slot)) (λ w. e) (λ w. e))
 
   share-still : (y : Record) (shares : List Keep) → Still y → StepStill (recovering y shares)
   unfolding recovering
@@ -67,10 +61,10 @@ module _ (x : Record) where
       pick-either StepStill (eqb (sharesKept shares) (y .setup .k)) _ (quiet (withShares y shares (y .recovered))) (λ b. e) (λ b. e)
 
   message-still : (m : ℕ) (msg : Message) → StepStill (messageStep x m msg)
-  unfolding heard sendStep echoStep readyStep shareStep
+  unfolding heard sendStep pointStep shareStep
   message-still m (send C P) = refl
-  message-still m (echo C f) = echo-still (heard x 2 m) _ _ refl
-  message-still m (ready C f) = ready-still (heard x 3 m) _ _ refl
+  message-still m (echo C f) = point-still ByEcho (heard x 2 m) _ _ refl
+  message-still m (ready C f) = point-still ByReady (heard x 3 m) _ _ refl
   message-still m (recovery s) = share-still (heard x 4 m) _ refl
 
   answered-still : (n : ℕ) (st : Step) (y : Record) (buffer : List ℕ) → StepStill st → Still y
@@ -81,26 +75,26 @@ module _ (x : Record) where
   deliver-still : (from : ℕ) (bytes buffer : List ℕ) → Still (deliver x from bytes buffer .outcome .next)
   unfolding deliver refusalHeard heard
   deliver-still from bytes buffer =
-      let n : ℕ = firstOf (deliverRows x from bytes buffer) in
-      let msg : Message = messageIn (x .setup .k) bytes in
-      answered-still n (messageStep x (from - 1) msg) (refusalHeard n x from bytes) buffer (message-still (from - 1) msg)
-      (pick-either Still ((eqb n 8 or eqb n 9 or eqb n 10) and hasMatrix (tagIn bytes)) (heard x (tagIn bytes) (from - 1)) x
-      (λ e. refl) (λ e. refl))
+      let n : ℕ = firstOf (deliverRows x from bytes (length buffer)) in
+      let msg : Message = messageIn (x .setup) bytes in
+      let m : Bool = firstRow (deliverRows x from bytes (length buffer)) .marks in
+      answered-still n (messageStep x (from - 1) msg) (refusalHeard m x from bytes) buffer (message-still (from - 1) msg)
+      (pick-either Still m (heard x (tagIn bytes) (from - 1)) x (λ e. refl) (λ e. refl))
 
   deal-still : (secret : ℕ) (coins buffer : List ℕ) → Still (deal x secret coins buffer .outcome .next)
   unfolding deal dealStep
-  deal-still secret coins buffer = answered-still (firstOf (dealRows x secret coins buffer)) (dealStep x secret coins) x buffer refl refl
+  deal-still secret coins buffer = answered-still (firstOf (dealRows x secret coins (length buffer))) (dealStep x secret coins) x buffer refl refl
 
   -- a command that is taken marks
-  taken-marks : (buffer : List ℕ) → firstOf (recoverRows x buffer) ≡ 0 → recover x buffer .outcome .next .progress .commanded ≡ true
+  taken-marks : (buffer : List ℕ) → firstOf (recoverRows x (length buffer)) ≡ 0 → recover x buffer .outcome .next .progress .commanded ≡ true
   unfolding recover recoverStep accepted
   taken-marks buffer e =
-      ap (λ (d : Done). d .outcome .next .progress .commanded) (answered-accepted (firstOf (recoverRows x buffer)) (recoverStep x) x buffer e)
+      ap (λ (d : Done). d .outcome .next .progress .commanded) (answered-accepted (firstOf (recoverRows x (length buffer))) (recoverStep x) x buffer e)
 
   recover-unmarked : (buffer : List ℕ) → recover x buffer .outcome .next .progress .commanded ≡ false → x .progress .commanded ≡ false
   unfolding recover recoverStep accepted refused
   recover-unmarked buffer =
-      answered-either (firstOf (recoverRows x buffer)) (recoverStep x) x buffer
+      answered-either (firstOf (recoverRows x (length buffer))) (recoverStep x) x buffer
       (λ (d : Done). d .outcome .next .progress .commanded ≡ false → x .progress .commanded ≡ false)
       (λ e marked. absurd (true≢false marked)) (λ z unmarked. unmarked)
 
@@ -120,19 +114,16 @@ unmarked-before u c cs = call-unmarked (after u cs) c
 
 -- it is refused, by the same row in both runs
 module _ (t : Twice) (i : ℕ) (x : Record) (hx : sound x ≡ true) (hy : sound (movedRecord t i x) ≡ true) (buffer : List ℕ) where
-  rows-same : firstOf (recoverRows x buffer) ≡ firstOf (recoverRows (movedRecord t i x) buffer)
-  unfolding recoverRows
-  rows-same =
-      row-alike 15 _ _ _ _ refl (λ z15.
-      row-alike 12 _ _ _ _ (ap not (hx ∙ sym hy)) (λ z12.
-      row-alike 13 _ _ _ _ refl (λ z13. refl)))
+  rows-same : firstRow (recoverRows x (length buffer)) ≡ firstRow (recoverRows (movedRecord t i x) (length buffer))
+  unfolding recoverRows ownRecoverRows
+  rows-same = call-alike x _ (length buffer) _ _ hx hy (row-alike _ _ _ _ refl refl refl (λ z13. refl))
 
   recover-alike : recover x buffer .outcome .next .progress .commanded ≡ false
       → DoneAlike t i (recover x buffer) (recover (movedRecord t i x) buffer)
   unfolding recover
   recover-alike unmarked =
       answered-alike t i _ _ _ _ x (movedRecord t i x) buffer
-      rows-same (λ e. absurd (true≢false (sym (taken-marks x buffer e) ∙ unmarked))) (λ e. refl)
+      (ap (λ (r : Refusal). r .number) rows-same) (λ e. absurd (true≢false (sym (taken-marks x buffer e) ∙ unmarked))) (λ e. refl)
 
 -- ---- the two lives of box i
 

@@ -3,20 +3,20 @@
 -- In order: the checks; below q; no move.
 -- Assumes nothing.
 use mathlib.Core.Path.{_≡_, ap, ap₂, _∙_, sym, subst}
-use mathlib.Core.Bool.{Bool, true}
+use mathlib.Core.Bool.{true}
 use mathlib.Core.List.{List}
-use Prim.Native.Nat.{ℕ, _+_, _*_, _%_, _^_, _<_}
+use Prim.Native.Nat.{ℕ, _+_, _*_, _%_, _<_}
 use native.Mathlib.Nat.{mod-eq-of-lt}
 use native.Mathlib.Omega.{arith}
 use lib.Dec.{eqb}
 use Rattle.folds.specs.Tests.{_and_}
-use Rattle.folds.specs.Below.{allBelow, prodBelow, allBelow-same}
+use Rattle.folds.specs.Below.{allBelow, allBelow-same}
 use Rattle.rules.specs.declared.Element.{Element}
 use Rattle.rules.specs.declared.Exponent.{Exponent}
 use Rattle.rules.specs.declared.Four.{Four}
 use Rattle.rules.specs.declared.Polynomials.{Polynomials}
-use Rattle.rules.specs.Matrices.{entry, coefficient, α, α′, β, β′}
-use Rattle.rules.specs.Dealing.{committed, openedAt, polynomialsBelow, fourBelow, polynomialCheck, pointCheck}
+use Rattle.rules.specs.Matrices.{coefficient, α, α′, β, β′}
+use Rattle.rules.specs.Dealing.{polynomialsBelow, fourBelow, polynomialCheck, pointCheck, opens, lEquation, jEquation, αEquation, βEquation}
 use Rattle.rules.specs.Laws.Checks.{four-below, polynomials-below, four-lows}
 use Rattle.demands.specs.Sharing.{group}
 use Rattle.demands.specs.Matching.{z, difference, difference′}
@@ -27,35 +27,30 @@ use Rattle.demands.specs.Hiding.Values.{coefficient-moved}
 module _ (t : Twice) (h : Given t) where
   -- ---- the checks
 
+  -- an equation with both exponents moved
+  equation-unseen : (w x y e : ℕ) → opens (group (numbers t)) (shifted t w x) (shifted′ t w y) e ≡ opens (group (numbers t)) x y e
+  unfolding opens
+  equation-unseen w x y e = ap (λ v. eqb v e) (unseen t h w x y)
+
   pub point-unseen : (C : List (List Element)) (i m w : ℕ) (f : Four)
       → pointCheck (group (numbers t)) (numbers t .k) C i m (movedFour t w f) ≡ pointCheck (group (numbers t)) (numbers t .k) C i m f
-  unfolding pointCheck
-  point-unseen C i m w f =
-      let G = group (numbers t) in
-      let k = numbers t .k in
-      ap₂ (λ a b. eqb a (openedAt G k C m i) and eqb b (openedAt G k C i m)) (unseen t h w (α f) (α′ f)) (unseen t h w (β f) (β′ f))
+  unfolding pointCheck αEquation βEquation
+  point-unseen C i m w f = ap₂ _and_ (equation-unseen w (α f) (α′ f) _) (equation-unseen w (β f) (β′ f) _)
 
   -- one side of the polynomial check: a and a', or b and b'
-  abbrev sidePasses : List Exponent → List Exponent → (ℕ → ℕ) → Bool
-  sidePasses a b value = allBelow (numbers t .k) (λ l. eqb (committed (group (numbers t)) (coefficient a l) (coefficient b l)) (value l))
-
   side-unseen : (j : ℕ) (a b : List Exponent) (value : ℕ → ℕ)
-      → sidePasses (movedBy t (shifted t) j a) (movedBy t (shifted′ t) j b) value ≡ sidePasses a b value
+      → allBelow (numbers t .k) (λ l. opens (group (numbers t)) (coefficient (movedBy t (shifted t) j a) l) (coefficient (movedBy t (shifted′ t) j b) l) (value l))
+      ≡ allBelow (numbers t .k) (λ l. opens (group (numbers t)) (coefficient a l) (coefficient b l) (value l))
   side-unseen j a b value =
-      allBelow-same _ _ (numbers t .k) (λ l lt. ap (λ v. eqb v (value l))
-      (ap₂ (committed (group (numbers t))) (coefficient-moved t h (shifted t) j a l lt) (coefficient-moved t h (shifted′ t) j b l lt)
-      ∙ unseen t h (zed t j * z (numbers t) (inSet t) l) (coefficient a l) (coefficient b l)))
+      allBelow-same _ _ (numbers t .k) (λ l lt.
+      ap₂ (λ x y. opens (group (numbers t)) x y (value l)) (coefficient-moved t h (shifted t) j a l lt) (coefficient-moved t h (shifted′ t) j b l lt)
+      ∙ equation-unseen (zed t j * z (numbers t) (inSet t) l) (coefficient a l) (coefficient b l) (value l))
 
   pub polynomials-unseen : (C : List (List Element)) (i j : ℕ) (P : Polynomials)
       → polynomialCheck (group (numbers t)) (numbers t .k) C i (movedPolynomials t j P)
       ≡ polynomialCheck (group (numbers t)) (numbers t .k) C i P
-  unfolding polynomialCheck
-  polynomials-unseen C i j P =
-      let G = group (numbers t) in
-      let k = numbers t .k in
-      ap₂ _and_
-      (side-unseen j (P .a) (P .a2) (λ l. prodBelow k (λ j. entry C j l ^ (i ^ j)) % G .p))
-      (side-unseen j (P .b) (P .b2) (λ j. prodBelow k (λ l. entry C j l ^ (i ^ l)) % G .p))
+  unfolding polynomialCheck lEquation jEquation
+  polynomials-unseen C i j P = ap₂ _and_ (side-unseen j (P .a) (P .a2) _) (side-unseen j (P .b) (P .b2) _)
 
   -- ---- below q
 

@@ -105,7 +105,7 @@ dealt-passes : matrixPasses (group class) 2 D ≡ true
 unfolding computed
 dealt-passes = refl
 
-coins-keep : coinsKeep (order class) 2 5 coins ≡ true
+coins-keep : coinsKeep class 5 coins ≡ true
 unfolding computed
 coins-keep = refl
 

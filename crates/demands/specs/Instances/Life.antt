@@ -242,7 +242,7 @@ pub record Says : Type 0 where
   pub e : countBelow 10 (λ m. checked class play 2 (m + 1) D) ≡ 2
   pub r : countBelow 10 (λ m. checked class play 3 (m + 1) D) ≡ 3
   pub echoes : wrote (doing (after class start) (gets 1 first 2048))
-      ≡ toEach class (λ j. echo (matrixIn 2 first) (echoFour (order class) 2 (polynomialsIn 2 first) j))
+      ≡ toEach class (λ j. echo (matrixIn class first) (echoFour (order class) 2 (polynomialsIn class first) j))
   pub kept : There (pair 7 8) ≡ There (pairFrom (order class) (take 2 (points (slotAt then (ownSlot then D) .places))))
   pub passes : shareCheck (group class) 2 (matrixOf (slotAt end 0)) 1 (pair 7 8) ≡ true
   pub opens : committed (group class) 5 1 ≡ entry (matrixOf (slotAt end 0)) 0 0

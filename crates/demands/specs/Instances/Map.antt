@@ -13,7 +13,7 @@ use Rattle.folds.specs.Runs.{gather-same}
 use Rattle.rules.specs.declared.SetUp.{SetUp}
 use Rattle.rules.specs.Numbers.{groups, groupOf}
 use Rattle.rules.specs.Messages.{send, tagOf, bodyOf, framed, bytesOf, twoBytes, matrixBytes, coefficientBytes, polynomialBytes}
-use Rattle.rules.specs.Dealing.{fOf, f′Of, coinsKeep, polynomialsOf}
+use Rattle.rules.specs.Dealing.{fOf, f′Of, coinsKeep, polynomialsOf, fromCoins}
 use Rattle.rules.specs.Computed.{computed}
 use Rattle.rules.specs.HandSums.{coins, C, dealt}
 use Rattle.rules.specs.Laws.Dealing.{alongY-at, alongX-at}
@@ -43,19 +43,19 @@ stays q d w v c c* x rest none moves =
     ∙ sym rest
 
 module _ (u : SetUp) (sound : Sound u) (A : ℕ → Bool) (few : Few u A) (s s′ : ℕ) (low : s < order u) (low′ : s′ < order u)
-    (coins : List ℕ) (keeps : coinsKeep (order u) (u .k) s coins ≡ true) where
+    (coins : List ℕ) (keeps : coinsKeep u s coins ≡ true) where
   abbrev there : List ℕ
   there = matching u A s s′ coins
 
   module _ (m : ℕ) (box : (1 ≤ m) × (m ≤ u .n)) (member : A m ≡ true) where
-    numbers-same : polynomialBytes (u .k) (dealtTo u s′ there m) ≡ polynomialBytes (u .k) (dealtTo u s coins m)
+    numbers-same : polynomialBytes u (dealtTo u s′ there m) ≡ polynomialBytes u (dealtTo u s coins m)
     unfolding polynomialBytes coefficientBytes polynomialsOf
     numbers-same =
         let q = order u in
         let k = u .k in
         let small = size u sound .high in
-        let f = fOf k s coins in
-        let f′ = f′Of k s coins in
+        let f = fOf u s coins in
+        let f′ = f′Of u s coins in
         let d = difference u s s′ in
         let d′ = difference′ u s s′ in
         let none = z-on-set u sound A few s s′ low low′ m (box .0) (box .1) member in
@@ -101,7 +101,7 @@ pub low-6 : 6 < order numbers
 unfolding computed
 low-6 = omega arith
 
-pub coins-keep : coinsKeep (order numbers) 2 5 coins ≡ true
+pub coins-keep : coinsKeep numbers 5 coins ≡ true
 unfolding computed
 coins-keep = refl
 
@@ -118,7 +118,7 @@ matches = refl
 -- "the same C and the same send to box 1"
 pub P9 : (C 6 coins* ≡ C 5 coins)
     × (bytesOf numbers (send (C 6 coins*) (dealt 6 coins* 1)) ≡ bytesOf numbers (send (C 5 coins) (dealt 5 coins 1)))
-unfolding groups groupOf
+unfolding groups groupOf fOf f′Of fromCoins
 P9 = (
   ap (λ t. dealtMatrix numbers 6 t) (sym matches) ∙ matching-matrix numbers numbers-sound set few 5 6 low-5 low-6 coins coins-keep,
   ap (λ t. bytesOf numbers (send (dealtMatrix numbers 6 t) (dealtTo numbers 6 t 1))) (sym matches)

@@ -70,4 +70,4 @@ module _ (u : SetUp) (taken : setUp u .answer .no ≡ 0) where
       }
 
   pub facts-at : (cs : List Call) (s : ℕ) → s < 20 → SlotFacts u (slotAt (after u cs) s)
-  facts-at cs s l = subst (λ (v : SetUp). SlotFacts v (slotAt (after u cs) s)) (own-setup cs) (good cs .facts .slots s l)
+  facts-at cs s l = subst (λ (v : SetUp). SlotFacts v (slotAt (after u cs) s)) (own-setup cs) (good cs .facts .slots .each s l)

@@ -25,7 +25,9 @@ use Rattle.rules.specs.Dealing.{pointCheck}
 use Rattle.rules.specs.Record.{silent, marked, placeAt, countE, countR}
 use Rattle.rules.specs.Steps.{firstPoint}
 use Rattle.rules.specs.Answers.{setUp}
-use Rattle.rules.specs.Laws.Facts.{Side, byEcho, byReady, marksOf, ear}
+use Rattle.rules.specs.declared.Side.{Side}
+use Rattle.rules.specs.declared.Side.the-variants.{ByEcho, ByReady}
+use Rattle.rules.specs.Laws.Facts.{marksOf, ear}
 use Rattle.rules.specs.Laws.Kept.OpenSlot.{zero-silent, zero-unmarked}
 use Rattle.demands.specs.Histories.{Call, after}
 use Rattle.demands.specs.Sharing.{group}
@@ -60,11 +62,11 @@ module _ (u : SetUp) (set-up : setUp u .answer .no ≡ 0) (D : List (List Elemen
 
   pub e-is : (cs : List Call) → eOf (after u cs) D ≡ countBelow 10 (λ m. checked u cs 2 (m + 1) D)
   unfolding countE
-  e-is cs = e-of (after u cs) D ∙ countBelow-same _ _ 10 (λ i l. marks-are byEcho i l cs)
+  e-is cs = e-of (after u cs) D ∙ countBelow-same _ _ 10 (λ i l. marks-are ByEcho i l cs)
 
   pub r-is : (cs : List Call) → rOf (after u cs) D ≡ countBelow 10 (λ m. checked u cs 3 (m + 1) D)
   unfolding countR
-  r-is cs = r-of (after u cs) D ∙ countBelow-same _ _ 10 (λ i l. marks-are byReady i l cs)
+  r-is cs = r-of (after u cs) D ∙ countBelow-same _ _ 10 (λ i l. marks-are ByReady i l cs)
 
   -- ---- the points held
 
@@ -76,7 +78,7 @@ module _ (u : SetUp) (set-up : setUp u .answer .no ≡ 0) (D : List (List Elemen
       go : View (after u cs) c D → placeAt (slotOf (after u cs) D) i .point ≡ said u cs (i + 1) D
           → placeAt (slotOf (next (after u cs) c) D) i .point
           ≡ pick (takesNow (after u cs) c (i + 1) D) (firstPoint (said u cs (i + 1) D) (fourOf (after u cs) c)) (said u cs (i + 1) D)
-      go (aside t) ih = rw (t .slot, t .unchecked byEcho (i + 1), t .unchecked byReady (i + 1)) ih
+      go (aside t) ih = rw (t .slot, t .unchecked ByEcho (i + 1), t .unchecked ByReady (i + 1)) ih
       go (touched b m f sends t) ih =
           ap (λ (ps : List Place). getD ps i silent .point) (t .slot .places)
           ∙ taken-point (slotOf (after u cs) D) (slot-shape (after u cs) (good u set-up cs) D) m i (t .low) b f
@@ -95,7 +97,7 @@ module _ (u : SetUp) (set-up : setUp u .answer .no ≡ 0) (D : List (List Elemen
 
       go : View (after u cs) c D → (said u cs m D ≡ Held f → now m f)
           → pick (takesNow (after u cs) c m D) (firstPoint (said u cs m D) (fourOf (after u cs) c)) (said u cs m D) ≡ Held f → now m f
-      go (aside t) ih e = ih (rw (t .unchecked byEcho m, t .unchecked byReady m) at e)
+      go (aside t) ih e = ih (rw (t .unchecked ByEcho m, t .unchecked ByReady m) at e)
       go (touched b i h sends t) ih e =
           ⊎-elim
           (λ q.

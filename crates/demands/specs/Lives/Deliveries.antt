@@ -3,15 +3,15 @@
 -- In that order.
 -- Assumes nothing.
 use mathlib.Core.Path.{_≡_, refl, sym, ap, ap₂, _∙_, subst}
-use mathlib.Core.Bool.{true, false}
+use mathlib.Core.Bool.{Bool, true, false}
 use mathlib.Core.List.{List}
 use Prim.Native.Nat.{ℕ, _+_, _-_, _<_, _≤_}
 use native.Mathlib.Decide.{ℕ-discrete}
 use native.Mathlib.Omega.{arith}
 use lib.Dec.{eqb}
-use lib.ListN.{take, replicate}
+use lib.ListN.{take, replicate, length}
 use borrow.Author.Tests.{ne-eqb}
-use Rattle.folds.specs.Tests.{_and_, _or_, pick-either, and-false, true≢false, and-true}
+use Rattle.folds.specs.Tests.{_and_, pick-either, and-false, true≢false, and-true}
 use Rattle.rules.specs.declared.Element.{Element}
 use Rattle.rules.specs.declared.Four.{Four}
 use Rattle.rules.specs.declared.Outcome.{Outcome}
@@ -22,19 +22,22 @@ use Rattle.rules.specs.declared.Record.{Record}
 use Rattle.rules.specs.declared.Sent.the-variants.{Echo}
 use Rattle.rules.specs.declared.SetUp.{SetUp}
 use Rattle.rules.specs.Numbers.{groupOf}
-use Rattle.rules.specs.Messages.{Message, echo, ready, tagIn, hasMatrix, matrixIn, polynomialsIn, fourIn, pairIn, messageIn, toEach, written}
+use Rattle.rules.specs.Messages.{Message, echo, ready, tagIn, matrixIn, polynomialsIn, fourIn, pairIn, messageIn, toEach, written}
 use Rattle.rules.specs.Dealing.{pointCheck}
 use Rattle.rules.specs.Record.{groupIn, sameMatrix, sound}
 use Rattle.rules.specs.Steps.{heard, echoFour, sendStep, slotFor, shareStep, messageStep}
-use Rattle.rules.specs.Answers.{Done, accepted, refused, answered, firstOf, shareChecks, deliverRows, refusalHeard, deliver}
+use Rattle.rules.specs.Answers.{Done, accepted, refused, answered, firstOf, shareChecks, deliverRows, refusalHeard, deliver, firstRow}
 use Rattle.rules.specs.Laws.Numbers.{is-box}
 use Rattle.rules.specs.Laws.DemandOne.{outcome-number, answered-accepted, answered-refused}
-use Rattle.rules.specs.Laws.Facts.{Side, byEcho, byReady, ear, hears, needed}
+use Rattle.rules.specs.declared.Side.{Side}
+use Rattle.rules.specs.declared.Side.the-variants.{ByEcho, ByReady}
+use Rattle.rules.specs.Laws.Facts.{ear, hears, needed}
 use Rattle.rules.specs.Laws.Sound.{facts-sound}
 use Rattle.rules.specs.Laws.Lengths.{take-written}
 use Rattle.rules.specs.Laws.RoundTrip.{is-send, is-echo, is-ready, is-recovery, by-tag}
-use Rattle.rules.specs.Laws.Room.{Found, room-echo, room-ready}
-use Rattle.rules.specs.Laws.Kept.{deliver-kept, Passed, rows-passed, good-of}
+use Rattle.rules.specs.Laws.Room.{Found, room}
+use Rattle.rules.specs.Laws.Kept.{deliver-kept, good-of}
+use Rattle.rules.specs.Laws.Passed.{Passed, rows-passed}
 use Rattle.rules.specs.Laws.Kept.Changes.{Good, hears-own, hears-stays}
 use Rattle.demands.specs.Histories.{Call, deals, gets, commanded, doing, wrote}
 use Rattle.demands.specs.Lives.Terms.{checksNow, shareNow, isEcho, isReady}
@@ -46,17 +49,17 @@ use Rattle.demands.specs.Lives.Turns.{next, takes, keeps, Turn, Untouche
 abbrev pub Echoed : SetUp → List ℕ → Done → Type 0
 Echoed u bytes d =
     (d .outcome .answer .sent ≡ Echo)
-    × (wrote d ≡ toEach u (λ j. echo (matrixIn (u .k) bytes) (echoFour (groupOf (u .group) .q) (u .k) (polynomialsIn (u .k) bytes) j)))
+    × (wrote d ≡ toEach u (λ j. echo (matrixIn u bytes) (echoFour (groupOf (u .group) .q) (u .k) (polynomialsIn u bytes) j)))
 
 module _ (x : Record) (g : Good x) (sender : ℕ) (bytes : List ℕ) (lent : ℕ) where
   abbrev it : Call
   it = gets sender bytes lent
 
   abbrev pub number : ℕ
-  number = firstOf (deliverRows x sender bytes (replicate lent 0))
+  number = firstOf (deliverRows x sender bytes (length {A = ℕ} (replicate lent 0)))
 
   abbrev said-in : Message
-  said-in = messageIn (x .setup .k) bytes
+  said-in = messageIn (x .setup) bytes
 
   good-after : Good (next x it)
   unfolding doing
@@ -65,15 +68,18 @@ module _ (x : Record) (g : Good x) (sender : ℕ) (bytes : List ℕ) (lent : ℕ
       good-of _ (kept .0) (kept .1)
 
   -- refused
-  out-refused : (number ≡ 0 → ⊥) → doing x it .outcome ≡ refused number (refusalHeard number x sender bytes)
+  abbrev marks : Bool
+  marks = firstRow (deliverRows x sender bytes (length {A = ℕ} (replicate lent 0))) .marks
+
+  out-refused : (number ≡ 0 → ⊥) → doing x it .outcome ≡ refused number (refusalHeard marks x sender bytes)
   unfolding doing deliver
   out-refused d = ap (λ (o : Done). o .outcome) (answered-refused number _ _ (replicate lent 0) d)
 
-  refused-tells : (n : ℕ) → Tells x (refused n (refusalHeard n x sender bytes))
+  refused-tells : (n : ℕ) → Tells x (refused n (refusalHeard marks x sender bytes))
   unfolding refusalHeard
   refused-tells n =
-      tells-refused x n (refusalHeard n x sender bytes)
-      (pick-either (Untouched x) ((eqb n 8 or eqb n 9 or eqb n 10) and hasMatrix (tagIn bytes)) (heard x (tagIn bytes) (sender - 1)) x
+      tells-refused x n (refusalHeard marks x sender bytes)
+      (pick-either (Untouched x) marks (heard x (tagIn bytes) (sender - 1)) x
       (λ e. untouched-heard x (tagIn bytes) (sender - 1))
       (λ e. untouched-same x))
 
@@ -96,20 +102,20 @@ module _ (x : Record) (g : Good x) (sender : ℕ) (bytes : List ℕ) (lent : ℕ
     no-zero = ap (λ (o : Outcome). eqb (o .answer .no) 0) out-accepted
 
     pub has-passed : Passed x sender bytes
-    has-passed = rows-passed x sender bytes (replicate lent 0) e
+    has-passed = rows-passed x sender bytes (length {A = ℕ} (replicate lent 0)) e
 
     from-one : sender ≡ sender - 1 + 1
-    from-one = let b = is-box (x .setup) sender (has-passed .box) in omega arith
+    from-one = let b = is-box (x .setup) sender (has-passed .hearing .box) in omega arith
 
     below-ten : sender - 1 < 10
-    below-ten = let b = has-passed .within in let n = needed x (g .facts) .boxes in omega arith
+    below-ten = let b = has-passed .hearing .within in let n = needed x (g .facts) .boxes in omega arith
 
     -- what the call checks now, by its tag
     checks-now : (t : ℕ) → tagIn bytes ≡ t → (tag i : ℕ) (D : List (List Element))
-        → checksNow x it tag i D ≡ eqb (sender - 1 + 1) i and eqb t tag and sameMatrix (x .setup .k) (matrixIn (x .setup .k) bytes) D
+        → checksNow x it tag i D ≡ eqb (sender - 1 + 1) i and eqb t tag and sameMatrix (x .setup .k) (matrixIn (x .setup) bytes) D
     unfolding checksNow
     checks-now t h tag i D =
-        rw (no-zero, h) (ap (λ (n : ℕ). eqb n i and eqb t tag and sameMatrix (x .setup .k) (matrixIn (x .setup .k) bytes) D) from-one)
+        rw (no-zero, h) (ap (λ (n : ℕ). eqb n i and eqb t tag and sameMatrix (x .setup .k) (matrixIn (x .setup) bytes) D) from-one)
 
     shares-now : (t : ℕ) → tagIn bytes ≡ t → (i : ℕ) → shareNow x it i ≡ eqb (sender - 1 + 1) i and eqb t 4
     unfolding shareNow
@@ -118,8 +124,8 @@ module _ (x : Record) (g : Good x) (sender : ℕ) (bytes : List ℕ) (lent : ℕ
     -- a tag that is no side's, and one that is no recovery share's
     unchecked-now : (t : ℕ) → tagIn bytes ≡ t → eqb t 2 ≡ false → eqb t 3 ≡ false → (b : Side) (i : ℕ) (D : List (List Element))
         → checksNow x it (ear b + 1) i D ≡ false
-    unchecked-now t h d d′ byEcho i D = checks-now t h 2 i D ∙ (rw d (and-false (eqb (sender - 1 + 1) i)))
-    unchecked-now t h d d′ byReady i D = checks-now t h 3 i D ∙ (rw d′ (and-false (eqb (sender - 1 + 1) i)))
+    unchecked-now t h d d′ ByEcho i D = checks-now t h 2 i D ∙ (rw d (and-false (eqb (sender - 1 + 1) i)))
+    unchecked-now t h d d′ ByReady i D = checks-now t h 3 i D ∙ (rw d′ (and-false (eqb (sender - 1 + 1) i)))
 
     unshared-now : (t : ℕ) → tagIn bytes ≡ t → eqb t 4 ≡ false → (i : ℕ) → shareNow x it i ≡ false
     unshared-now t h d i = shares-now t h i ∙ (rw d (and-false (eqb (sender - 1 + 1) i)))
@@ -136,12 +142,12 @@ module _ (x : Record) (g : Good x) (sender : ℕ) (bytes : List ℕ) (lent : ℕ
           completed = refl;
           ready = refl;
           echoes = λ q.
-              rw (← has-passed .dealer h) (rw h at (has-passed .unheard), hears-own x (g .shape) 1 (sender - 1) (omega arith) below-ten);
+              rw (← has-passed .hearing .dealer h) (rw h at (has-passed .hearing .unheard), hears-own x (g .shape) 1 (sender - 1) (omega arith) below-ten);
         }
 
     turn-send : tagIn bytes ≡ 1 → Turn x it
     turn-send h =
-        let t = subst (Tells x) (sym (out-message _ (is-send (x .setup .k) bytes h))) (send-tells h _ _) in
+        let t = subst (Tells x) (sym (out-message _ (is-send (x .setup) bytes h))) (send-tells h _ _) in
         record {
           turned = quiet-turned x it t;
           good = good-after;
@@ -152,10 +158,10 @@ module _ (x : Record) (g : Good x) (sender : ℕ) (bytes : List ℕ) (lent : ℕ
     send-echoes : tagIn bytes ≡ 1 → Echoed (x .setup) bytes (doing x it)
     unfolding accepted sendStep heard doing deliver
     send-echoes h =
-        let out = out-message _ (is-send (x .setup .k) bytes h) in
-        let all = ap (λ (m : Message). messageStep x (sender - 1) m .bytes) (is-send (x .setup .k) bytes h) in
+        let out = out-message _ (is-send (x .setup) bytes h) in
+        let all = ap (λ (m : Message). messageStep x (sender - 1) m .bytes) (is-send (x .setup) bytes h) in
         let buffer = ap (λ (o : Done). o .buffer)
-        (answered-accepted number (messageStep x (sender - 1) said-in) (refusalHeard number x sender bytes) (replicate lent 0) e)
+        (answered-accepted number (messageStep x (sender - 1) said-in) (refusalHeard marks x sender bytes) (replicate lent 0) e)
         ∙ ap (λ (b : List ℕ). written b (replicate lent 0)) all in (
           ap (λ (o : Outcome). o .answer .sent) out,
           ap₂ (λ (n : ℕ) (b : List ℕ). take n b) (ap (λ (o : Outcome). o .answer .bytes) out) buffer ∙ take-written _ (replicate lent 0),
@@ -163,7 +169,7 @@ module _ (x : Record) (g : Good x) (sender : ℕ) (bytes : List ℕ) (lent : ℕ
 
     -- an echo or a ready
     turn-takes : (b : Side) → tagIn bytes ≡ ear b + 1 → (C : List (List Element)) (f : Four)
-        → matrixIn (x .setup .k) bytes ≡ C → fourIn (x .setup .k) bytes ≡ f
+        → matrixIn (x .setup) bytes ≡ C → fourIn (x .setup) bytes ≡ f
         → doing x it .outcome ≡ accepted (stepOf b x (sender - 1) C f) → Found x C (slotFor x C)
         → pointCheck (groupIn x) (x .setup .k) C (x .setup .i) sender f ≡ true → Turn x it
     unfolding accepted
@@ -201,16 +207,16 @@ module _ (x : Record) (g : Good x) (sender : ℕ) (bytes : List ℕ) (lent : ℕ
         }
       where
         no-share : (a : Side) → eqb (ear a + 1) 4 ≡ false
-        no-share byEcho = refl
-        no-share byReady = refl
+        no-share ByEcho = refl
+        no-share ByReady = refl
 
         new : (a : Side) → tagIn bytes ≡ ear a + 1 → hears x (ear a) (sender - 1) ≡ false
-        new byEcho q = rw q at (has-passed .unheard)
-        new byReady q = rw q at (has-passed .unheard)
+        new ByEcho q = rw q at (has-passed .hearing .unheard)
+        new ByReady q = rw q at (has-passed .hearing .unheard)
 
         low-tag : (a : Side) → ear a + 1 ≤ 3
-        low-tag byEcho = omega arith
-        low-tag byReady = omega arith
+        low-tag ByEcho = omega arith
+        low-tag ByReady = omega arith
 
     -- a recovery share
     turn-keeps : tagIn bytes ≡ 4 → (p : Pair) → pairIn bytes ≡ p
@@ -242,24 +248,24 @@ module _ (x : Record) (g : Good x) (sender : ℕ) (bytes : List ℕ) (lent : ℕ
             unchecked = unchecked-now 4 h refl refl;
             shared = λ i. shares-now 4 h i ∙ and-true (eqb (sender - 1 + 1) i);
             pair = ep;
-            unrecovered = has-passed .unrecovered h;
+            unrecovered = has-passed .hearing .unrecovered h;
             check = rw (← from-one) check;
           });
         }
 
     turn-accepted : Turn x it
     turn-accepted =
-        by-tag k bytes (has-passed .form) turn-send
-        (λ h. turn-takes byEcho h _ _ refl refl (out-message _ (is-echo k bytes h))
-        (room-echo x (sender - 1) _ all-sound (has-passed .within) (rw h at (has-passed .unheard)))
-        (rw (is-echo k bytes h) at (has-passed .check)))
-        (λ h. turn-takes byReady h _ _ refl refl (out-message _ (is-ready k bytes h))
-        (room-ready x (sender - 1) _ all-sound (has-passed .within) (rw h at (has-passed .unheard)))
-        (rw (is-ready k bytes h) at (has-passed .check)))
-        (λ h. turn-keeps h _ refl (out-message _ (is-recovery k bytes h)) (rw (is-recovery k bytes h) at (has-passed .check)))
+        by-tag u bytes (has-passed .hearing .form) turn-send
+        (λ h. turn-takes ByEcho h _ _ refl refl (out-message _ (is-echo u bytes h))
+        (room x (sender - 1) _ all-sound (has-passed .hearing .within) ByEcho (rw h at (has-passed .hearing .unheard)))
+        (rw (is-echo u bytes h) at (has-passed .check)))
+        (λ h. turn-takes ByReady h _ _ refl refl (out-message _ (is-ready u bytes h))
+        (room x (sender - 1) _ all-sound (has-passed .hearing .within) ByReady (rw h at (has-passed .hearing .unheard)))
+        (rw (is-ready u bytes h) at (has-passed .check)))
+        (λ h. turn-keeps h _ refl (out-message _ (is-recovery u bytes h)) (rw (is-recovery u bytes h) at (has-passed .check)))
       where
-        k : ℕ
-        k = x .setup .k
+        u : SetUp
+        u = x .setup
 
         all-sound : sound x ≡ true
         all-sound = facts-sound x (g .facts)

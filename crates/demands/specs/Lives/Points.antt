@@ -24,7 +24,7 @@ use Rattle.rules.specs.declared.SetUp.{SetUp}
 use Rattle.rules.specs.declared.Slot.{Slot}
 use Rattle.rules.specs.Matrices.{zeroFour}
 use Rattle.rules.specs.Record.{placeAt, shareAt, isHeld, isThere, held, sharesKept}
-use Rattle.rules.specs.Steps.{Said, pointAt, points, keptAt, sharePoints}
+use Rattle.rules.specs.Steps.{Said, heldAt, points, keptAt, sharePoints}
 use Rattle.rules.specs.Answers.{noPair}
 use Rattle.demands.specs.Sharing.{Different, none}
 
@@ -103,11 +103,11 @@ module _ {A : Type 0} (u : SetUp) (z : A) (P : ℕ → A → Type 0) where
 
 module _ (u : SetUp) (slot : Slot) (P : ℕ → Four → Type 0) (above : (m : ℕ) → m < 10 → u .n ≤ m → held slot m ≡ false)
     (each : (m : ℕ) (f : Four) → m < 10 → placeAt slot m .point ≡ Held f → P (m + 1) f) where
-  point-piece : (m : ℕ) → m < 10 → (p : Point) → placeAt slot m .point ≡ p → Piece u P m (pointAt m p)
+  point-piece : (m : ℕ) → m < 10 → (p : Point) → placeAt slot m .point ≡ p → Piece u P m (heldAt m p)
   point-piece m l Silent e = mute
   point-piece m l (Held f) e = one f (passes-below m (u .n) (held slot m) (ap isHeld e) (above m l)) (each m f l e)
 
-  point-length : (m : ℕ) (p : Point) → length (pointAt m p) ≡ pick (isHeld p) 1 0
+  point-length : (m : ℕ) (p : Point) → length (heldAt m p) ≡ pick (isHeld p) 1 0
   point-length m Silent = refl
   point-length m (Held f) = refl
 
@@ -115,7 +115,7 @@ module _ (u : SetUp) (slot : Slot) (P : ℕ → Four → Type 0) (above : (m : �
   pub points-differ : u .k ≤ countBelow 10 (held slot) → Different u zeroFour (take (u .k) (points (slot .places))) P
   unfolding points
   points-differ h =
-      let f : ℕ → List (Said Four) = λ m. pointAt m (placeAt slot m .point) in
+      let f : ℕ → List (Said Four) = λ m. heldAt m (placeAt slot m .point) in
       let n = length-gather-count f (held slot) (λ m. point-length m (placeAt slot m .point)) 10 in
       first-differ u zeroFour P f (λ m l. point-piece m l (placeAt slot m .point) refl) (omega arith)
 

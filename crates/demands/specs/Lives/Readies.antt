@@ -26,12 +26,13 @@ use Rattle.rules.specs.Numbers.{echoQuorum}
 use Rattle.rules.specs.Matrices.{zeroFour}
 use Rattle.rules.specs.Dealing.{matrixPasses, pointCheck, shareCheck}
 use Rattle.rules.specs.Record.{marked, isThere, held, countE, countR, zeroSlot}
-use Rattle.rules.specs.Steps.{points, pairFrom}
+use Rattle.rules.specs.Steps.{points, pairFrom, taken, readyDue}
 use Rattle.rules.specs.Answers.{setUp}
 use Rattle.rules.specs.Laws.Numbers.{quorum}
 use Rattle.rules.specs.Laws.Shape.{ShapedSlot}
-use Rattle.rules.specs.Laws.Facts.{Side, marksOf, PairRight, SlotFacts}
-use Rattle.rules.specs.Laws.Kept.TakenSlot.{other, taken, countOf, aim, firstAt, count-grows, count-up, either-side}
+use Rattle.rules.specs.declared.Side.{Side}
+use Rattle.rules.specs.Laws.Facts.{marksOf, PairRight, SlotFacts}
+use Rattle.rules.specs.Laws.Kept.TakenSlot.{other, countOf, aim, count-grows, count-up, either-side, due-sides}
 use Rattle.demands.specs.Histories.{Call, after}
 use Rattle.demands.specs.Sharing.{group, order, Different, share-passes}
 use Rattle.demands.specs.Lives.Terms.{readiesSent}
@@ -55,12 +56,13 @@ no-pair u b w right h g = false-unless _ (λ e.
 -- a slot that is to send ready has none
 pub none-before : (u : SetUp) (b : Side) (m : ℕ) (f : Four) (w : Slot) → ShapedSlot w → PairRight u w → m < 10
     → marked (marksOf b w) m ≡ false
-    → firstAt u b (taken b w m f) ≡ true → isThere (w .pair .kept) ≡ false
+    → readyDue u b (taken b w m f) ≡ true → isThere (w .pair .kept) ≡ false
 none-before u b m f w shape right l n t =
     let up = count-up b w shape m l f n in
     let grows = count-grows b w shape m l f (other b) in
-    let at = eqb-true (countOf b (taken b w m f)) (aim u b) (and-left _ _ t) in
-    let low = ltb-true (countOf (other b) (taken b w m f)) (aim u (other b)) (and-right (eqb (countOf b (taken b w m f)) (aim u b)) _ t) in
+    let due = sym (due-sides u b (taken b w m f)) ∙ t in
+    let at = eqb-true (countOf b (taken b w m f)) (aim u b) (and-left _ _ due) in
+    let low = ltb-true (countOf (other b) (taken b w m f)) (aim u (other b)) (and-right (eqb (countOf b (taken b w m f)) (aim u b)) _ due) in
     no-pair u b w right (omega arith) (omega arith)
 
 -- a pair is there: k are held at least

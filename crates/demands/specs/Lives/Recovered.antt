@@ -110,7 +110,7 @@ module _ (u : SetUp) (set-up : setUp u .answer .no ≡ 0) where
   -- a share was kept, so the box had completed, and is as it was
   done-before : (cs : List Call) (c : Call) (s m : ℕ) (p : Pair) → m < 10 → shareAt (after u cs .shares) m ≡ There p
       → next (after u cs) c .progress .completion ≡ With s → after u cs .progress .completion ≡ With s
-  done-before cs c s m p l e h = go (after u cs .progress .completion) refl (facts .commanded (facts .shared m l (ap isThere e)))
+  done-before cs c s m p l e h = go (after u cs .progress .completion) refl (facts .progress .commanded (facts .shares .shared m l (ap isThere e)))
     where
       facts : Facts (after u cs)
       facts = good u set-up cs .facts
@@ -123,7 +123,7 @@ module _ (u : SetUp) (set-up : setUp u .answer .no ≡ 0) where
   -- the completed matrix does not change
   matrix-stays : (cs : List Call) (c : Call) (s : ℕ) → after u cs .progress .completion ≡ With s
       → matrixOf (slotAt (next (after u cs) c) s) ≡ matrixOf (slotAt (after u cs) s)
-  matrix-stays cs c s e = turn-at u set-up cs c .turned .stays s (good u set-up cs .facts .completion s e .used) .1
+  matrix-stays cs c s e = turn-at u set-up cs c .turned .stays s (good u set-up cs .facts .progress .completion s e .used) .1
 
   abbrev Passes : Record → ℕ → ℕ → Pair → Type 0
   Passes x s m p = shareCheck (group u) (u .k) (matrixOf (slotAt x s)) (m + 1) p ≡ true
@@ -176,13 +176,13 @@ module _ (u : SetUp) (set-up : setUp u .answer .no ≡ 0) where
       let x = after u cs in
       let facts = good u set-up cs .facts in
       let with-u = own-setup u set-up cs in
-      let done = facts .completion s d in
+      let done = facts .progress .completion s d in
       let passes = subst (λ (v : SetUp). matrixPasses (group v) (v .k) (matrixOf (slotAt x s)) ≡ true)
-      with-u (facts .slots s (done .within) .contents .passes (done .used)) in
-      let all = eqb-true (sharesKept (x .shares)) (x .setup .k) (sym (facts .exactly) ∙ ap isThere e) ∙ ap (λ (v : SetUp). v .k) with-u in
+      with-u (facts .slots .each s (done .within) .contents .passes (done .used)) in
+      let all = eqb-true (sharesKept (x .shares)) (x .setup .k) (sym (facts .shares .exactly) ∙ ap isThere e) ∙ ap (λ (v : SetUp). v .k) with-u in
       ap (λ (v : Pair). committed (group u) (v .first .0) (v .second .0)) (recovered-is p cs e)
       ∙ shares-open u (numbers-keep u set-up) (matrixOf (slotAt x s)) passes (sharePoints (x .shares))
       (shares-differ u (x .shares) (λ m v. shareCheck (group u) (u .k) (matrixOf (slotAt x s)) m v ≡ true)
-      (λ m l h. sym (facts .senders m l) ∙ facts .none m 3 l (subst (λ (v : SetUp). v .n ≤ m) (sym with-u) h) (omega arith))
+      (λ m l h. sym (facts .shares .senders m l) ∙ facts .none m 3 l (subst (λ (v : SetUp). v .n ≤ m) (sym with-u) h) (omega arith))
       (λ m v l h. share-pass s m v l cs d h)
       all)

@@ -15,7 +15,9 @@ use Rattle.rules.specs.declared.Four.{Four}
 use Rattle.rules.specs.declared.Record.{Record}
 use Rattle.rules.specs.Dealing.{matrixPasses, pointCheck}
 use Rattle.rules.specs.Record.{groupIn, marked, sameMatrix}
-use Rattle.rules.specs.Laws.Facts.{Side, byEcho, byReady, marksOf, ear}
+use Rattle.rules.specs.declared.Side.{Side}
+use Rattle.rules.specs.declared.Side.the-variants.{ByEcho, ByReady}
+use Rattle.rules.specs.Laws.Facts.{marksOf, ear}
 use Rattle.rules.specs.Laws.Agreement.{passes-agree, point-agree}
 use Rattle.rules.specs.Laws.Kept.Changes.{Good}
 use Rattle.demands.specs.Histories.{Call, doing}
@@ -52,10 +54,10 @@ pub data View (x : Record) (c : Call) (D : List (List Element)) : Type 0 where
 
 -- a tag is that of one side or the other
 one-side : (b : Side) (p : Bool) → (p and eqb (ear b + 1) 2) or (p and eqb (ear b + 1) 3) ≡ p
-one-side byEcho true = refl
-one-side byEcho false = refl
-one-side byReady true = refl
-one-side byReady false = refl
+one-side ByEcho true = refl
+one-side ByEcho false = refl
+one-side ByReady true = refl
+one-side ByReady false = refl
 
 module _ (x : Record) (g : Good x) (c : Call) (D : List (List Element)) where
   -- no slot changes

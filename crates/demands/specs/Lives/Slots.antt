@@ -21,7 +21,8 @@ use Rattle.rules.specs.Numbers.{groupKeeps, numbersKeep}
 use Rattle.rules.specs.Record.{slotAt, marked, isThere, matrixOf, sameMatrix, countE, countR, zeroSlot, newRecord}
 use Rattle.rules.specs.Steps.{ownSlot}
 use Rattle.rules.specs.Laws.Shape.{ShapedSlot}
-use Rattle.rules.specs.Laws.Facts.{Side, marksOf, ear, hears, SlotFacts}
+use Rattle.rules.specs.declared.Side.{Side}
+use Rattle.rules.specs.Laws.Facts.{marksOf, ear, hears, SlotFacts}
 use Rattle.rules.specs.Laws.Sound.{sound-facts, agree-comm}
 use Rattle.rules.specs.Laws.Agreement.{agree-self, agree-trans, agree-either}
 use Rattle.rules.specs.Laws.New.{new-sound, zero-slot}
@@ -112,7 +113,7 @@ module _ (x : Record) (g : Good x) where
           absurd (true≢false
           (sym (agree-trans (x .setup .k) (matrixOf (slotAt x s)) C (matrixOf (slotAt x r))
           (h .agrees) (agree-comm (x .setup .k) C (matrixOf (slotAt x r)) ∙ i .agrees))
-          ∙ g .facts .differ s r (h .within) (i .within) n (h .used) (i .used)))
+          ∙ g .facts .slots .differ s r (h .within) (i .within) n (h .used) (i .used)))
 
   -- the place of the one that has it
   pub own-is : (C : List (List Element)) (s : ℕ) → Has x C s → ownSlot x C ≡ s
@@ -148,13 +149,13 @@ module _ (x : Record) (g : Good x) where
 
 zero-facts : (u : SetUp) → groupKeeps u ≡ true → numbersKeep u ≡ true → SlotFacts u zeroSlot
 unfolding newRecord
-zero-facts u a b = sound-facts (newRecord u) (new-sound u a b) .slots 0 (omega arith)
+zero-facts u a b = sound-facts (newRecord u) (new-sound u a b) .slots .each 0 (omega arith)
 
 module _ (x : Record) (g : Good x) (C : List (List Element)) where
   pub slot-facts : SlotFacts (x .setup) (slotOf x C)
   slot-facts =
       ⊎-elim
-      (λ w. rw (slot-has x g C (w .0) (w .1)) (g .facts .slots (w .0) (w .1 .within)))
+      (λ w. rw (slot-has x g C (w .0) (w .1)) (g .facts .slots .each (w .0) (w .1 .within)))
       (λ none. rw (slot-lacks x g C none) (zero-facts (x .setup) (g .facts .group) (g .facts .numbers)))
       (some-has x g C)
 
@@ -171,7 +172,7 @@ module _ (x : Record) (g : Good x) (C : List (List Element)) (b : Side) (m : ℕ
   slot-unmarked e =
       ⊎-elim
       (λ w. false-unless _ (λ q.
-      true≢false (sym (g .facts .heard b m (w .0) l (w .1 .within) (rw (slot-has x g C (w .0) (w .1)) at q)) ∙ e)))
+      true≢false (sym (g .facts .slots .heard b m (w .0) l (w .1 .within) (rw (slot-has x g C (w .0) (w .1)) at q)) ∙ e)))
       (λ none. rw (slot-lacks x g C none) (zero-unmarked b m l))
       (some-has x g C)
 

@@ -4,7 +4,7 @@
 -- Assumes nothing.
 use mathlib.Core.Path.{_≡_, refl}
 use mathlib.Core.Bool.{Bool, true, false, not}
-use mathlib.Core.List.{List}
+use mathlib.Core.List.{List, []}
 use Prim.Native.Nat.{ℕ, _+_}
 use native.Mathlib.Omega.{arith}
 use lib.Dec.{eqb}
@@ -14,14 +14,19 @@ use Rattle.rules.specs.declared.Completion.{Completion}
 use Rattle.rules.specs.declared.Completion.the-variants.{NotYet, With}
 use Rattle.rules.specs.declared.Element.{Element}
 use Rattle.rules.specs.declared.Four.{Four}
-use Rattle.rules.specs.declared.Kept.the-variants.{There}
+use Rattle.rules.specs.declared.Keep.{Keep}
+use Rattle.rules.specs.declared.Kept.{Kept}
+use Rattle.rules.specs.declared.Kept.the-variants.{Absent, There}
 use Rattle.rules.specs.declared.Pair.{Pair}
+use Rattle.rules.specs.declared.Progress.{Progress}
 use Rattle.rules.specs.declared.Record.{Record}
+use Rattle.rules.specs.declared.Sent.{Sent}
+use Rattle.rules.specs.declared.Sent.the-variants.{Nothing, Ready}
 use Rattle.rules.specs.declared.Slot.{Slot}
-use Rattle.rules.specs.Record.{groupIn, slotAt, isDone, countR, sharesKept}
-use Rattle.rules.specs.Steps.{Step, heard, points, pairFrom, ownSlot, freeSlot, slotFor, opened, echoed, readied, keeping, readySent, echoAt, echoStep, firstCompletion, completing, completed, readyAt, readyStep, recoveredFrom, sharePoints, sharing, recovering, shareStep}
-use Rattle.rules.specs.Laws.Facts.{Side, byEcho, byReady, ear}
-use Rattle.rules.specs.Laws.Kept.TakenSlot.{taken, firstAt}
+use Rattle.rules.specs.Record.{groupIn, slotAt, isDone, sharesKept}
+use Rattle.rules.specs.Steps.{Step, withProgress, withShares, withSlot, heard, points, pairFrom, ownSlot, freeSlot, slotFor, opened, taken, keeping, readySent, firstCompletion, completing, completed, readyDue, completionDue, pointAt, pointStep, recoveredFrom, sharePoints, sharing, recovering, shareStep}
+use Rattle.rules.specs.declared.Side.{Side}
+use Rattle.rules.specs.Laws.Facts.{ear}
 use Rattle.demands.specs.Lives.Terms.{isEcho, isReady}
 
 -- ---- completion
@@ -50,8 +55,7 @@ first-stays (With a) s r e = e
 
 -- the step of a checked message of side b
 abbrev pub stepOf : Side → Record → ℕ → List (List Element) → Four → Step
-stepOf byEcho x m C f = echoStep (heard x 2 m) m C f
-stepOf byReady x m C f = readyStep (heard x 3 m) m C f
+stepOf b x m C f = pointStep b (heard x (ear b + 1) m) m C f
 
 -- a slot with the pair interpolated from its k lowest points
 abbrev pub paired : Record → Slot → Slot
@@ -73,78 +77,46 @@ by-test : (P : Bool → Step → Type 0) (t : Bool) (a b : Step) → P true a �
 by-test P true a b h g = h
 by-test P false a b h g = g
 
-by-tests : (P : Bool → Step → Type 0) (t r : Bool) (a b c : Step) → P true a → P false b → P false c → P t (pick t a (pick r b c))
-by-tests P true r a b c h g i = h
-by-tests P false true a b c h g i = g
-by-tests P false false a b c h g i = i
+module _ (b : Side) (x : Record) (m s : ℕ) (v : Slot) where
+  -- a step that puts this slot there, with this progress
+  puts : (sends : Bool) (progress : Progress) (sent : Sent) (bytes : List ℕ) (now : Bool)
+      → isReady sent ≡ sends → isEcho sent ≡ false
+      → JustNow (x .progress .completion) (progress .completion) now → Stays (x .progress .completion) (progress .completion)
+      → Stepped x b m s v sends
+      (record {
+        after = withProgress (withSlot (heard x (ear b + 1) m) s (pick sends (paired x v) v)) progress;
+        sent = sent;
+        bytes = bytes;
+        completed = now;
+        recovered = Absent;
+      })
+  unfolding heard
+  puts sends progress sent bytes now ready echo done still =
+      record {
+        slots = refl;
+        ready = ready;
+        echo = echo;
+        setup = refl;
+        ears = refl;
+        shares = refl;
+        recovered = refl;
+        done = done;
+        still = still;
+      }
 
 pub stepped : (b : Side) (x : Record) (m : ℕ) (C : List (List Element)) (f : Four)
     → Stepped x b m (slotFor x C) (taken b (opened C (slotAt x (slotFor x C))) m f)
-    (firstAt (x .setup) b (taken b (opened C (slotAt x (slotFor x C))) m f)) (stepOf b x m C f)
-unfolding echoStep echoAt readyStep readyAt readySent completed completing echoed readied heard slotFor ownSlot freeSlot
-stepped byEcho x m C f =
+    (readyDue (x .setup) b (taken b (opened C (slotAt x (slotFor x C))) m f)) (stepOf b x m C f)
+unfolding pointStep pointAt readySent completed completing heard slotFor ownSlot freeSlot
+stepped b x m C f =
     let s = slotFor x C in
-    let v = taken byEcho (opened C (slotAt x s)) m f in
-    by-test (Stepped x byEcho m s v) (firstAt (x .setup) byEcho v) _ _
-    (record {
-      slots = refl;
-      ready = refl;
-      echo = refl;
-      setup = refl;
-      ears = refl;
-      shares = refl;
-      recovered = refl;
-      done = as-before (x .progress .completion);
-      still = λ a e. e;
-    })
-    (record {
-      slots = refl;
-      ready = refl;
-      echo = refl;
-      setup = refl;
-      ears = refl;
-      shares = refl;
-      recovered = refl;
-      done = as-before (x .progress .completion);
-      still = λ a e. e;
-    })
-stepped byReady x m C f =
-    let s = slotFor x C in
-    let v = taken byReady (opened C (slotAt x s)) m f in
-    by-tests (Stepped x byReady m s v) (firstAt (x .setup) byReady v) (eqb (countR v) (x .setup .k + x .setup .t)) _ _ _
-    (record {
-      slots = refl;
-      ready = refl;
-      echo = refl;
-      setup = refl;
-      ears = refl;
-      shares = refl;
-      recovered = refl;
-      done = as-before (x .progress .completion);
-      still = λ a e. e;
-    })
-    (record {
-      slots = refl;
-      ready = refl;
-      echo = refl;
-      setup = refl;
-      ears = refl;
-      shares = refl;
-      recovered = refl;
-      done = first-now (x .progress .completion) s;
-      still = first-stays (x .progress .completion) s;
-    })
-    (record {
-      slots = refl;
-      ready = refl;
-      echo = refl;
-      setup = refl;
-      ears = refl;
-      shares = refl;
-      recovered = refl;
-      done = as-before (x .progress .completion);
-      still = λ a e. e;
-    })
+    let v = taken b (opened C (slotAt x s)) m f in
+    let c = x .progress .completion in
+    by-test (Stepped x b m s v) (readyDue (x .setup) b v) _ _
+    (puts b x m s v true (x .progress) Ready _ false refl refl (as-before c) (λ a e. e))
+    (by-test (λ t. Stepped x b m s v false) (completionDue (x .setup) b v) _ _
+    (puts b x m s v false _ Nothing [] (not (isDone c)) refl refl (first-now c s) (first-stays c s))
+    (puts b x m s v false (x .progress) Nothing [] false refl refl (as-before c) (λ a e. e)))
 
 -- ---- a recovery share
 
@@ -161,29 +133,28 @@ pub record Shared (x : Record) (m : ℕ) (p : Pair) (last : Bool) (st : Step) : 
   pub echo : isEcho (st .sent) ≡ false
   pub completed : st .completed ≡ false
 
+-- a step that keeps it, with this pair recovered
+keeps : (x : Record) (m : ℕ) (p : Pair) (last : Bool) (w : Keep) (r : Kept)
+    → w .kept ≡ pick last (There (recoveredFrom (groupIn x .q) (sharePoints (sharing x m p)))) (x .recovered .kept)
+    → Shared x m p last
+    (record { after = withShares (heard x 4 m) (sharing x m p) w; sent = Nothing; bytes = []; completed = false; recovered = r })
+unfolding heard
+keeps x m p last w r e =
+    record {
+      slots = refl;
+      setup = refl;
+      ears = refl;
+      progress = refl;
+      shares = refl;
+      recovered = e;
+      ready = refl;
+      echo = refl;
+      completed = refl;
+    }
+
 pub shared : (x : Record) (m : ℕ) (p : Pair) → Shared x m p (eqb (sharesKept (sharing x m p)) (x .setup .k)) (shareStep (heard x 4 m) m p)
 unfolding shareStep recovering heard
 shared x m p =
+    let pair = recoveredFrom (groupIn x .q) (sharePoints (sharing x m p)) in
     by-test (Shared x m p) (eqb (sharesKept (sharing x m p)) (x .setup .k)) _ _
-    (record {
-      slots = refl;
-      setup = refl;
-      ears = refl;
-      progress = refl;
-      shares = refl;
-      recovered = refl;
-      ready = refl;
-      echo = refl;
-      completed = refl;
-    })
-    (record {
-      slots = refl;
-      setup = refl;
-      ears = refl;
-      progress = refl;
-      shares = refl;
-      recovered = refl;
-      ready = refl;
-      echo = refl;
-      completed = refl;
-    })
+    (keeps x m p true (record { kept = There pair }) (There pair) refl) (keeps x m p false (x .recovered) Absent refl)

@@ -32,7 +32,7 @@ checksNow x (gets sender bytes lent) tag m C =
     eqb (doing x (gets sender bytes lent) .outcome .answer .no) 0
     and eqb sender m
     and eqb (tagIn bytes) tag
-    and sameMatrix (x .setup .k) (matrixIn (x .setup .k) bytes) C
+    and sameMatrix (x .setup .k) (matrixIn (x .setup) bytes) C
 checksNow x (commanded lent) tag m C = false
 
 abbrev pub senderOf : Call → ℕ
@@ -51,9 +51,9 @@ takesNow x c m C = checksNow x c 2 m C or checksNow x c 3 m C
 
 -- the four numbers of a call's message
 abbrev pub fourOf : Record → Call → Four
-fourOf x (deals secret coins lent) = fourIn (x .setup .k) []
-fourOf x (gets sender bytes lent) = fourIn (x .setup .k) bytes
-fourOf x (commanded lent) = fourIn (x .setup .k) []
+fourOf x (deals secret coins lent) = fourIn (x .setup) []
+fourOf x (gets sender bytes lent) = fourIn (x .setup) bytes
+fourOf x (commanded lent) = fourIn (x .setup) []
 
 -- the point of the first checked echo or ready of sender m for this matrix; silent, as long as there is none
 unfoldable pub said : SetUp → List Call → ℕ → List (List Element) → Point

@@ -22,11 +22,13 @@ use Rattle.rules.specs.declared.SetUp.{SetUp}
 use Rattle.rules.specs.declared.Slot.{Slot}
 use Rattle.rules.specs.Numbers.{groupOf}
 use Rattle.rules.specs.Record.{groupIn, slotAt, marked, placeAt, matrixOf, countE, countR, sameMatrix, noSlot}
-use Rattle.rules.specs.Steps.{mark, points, pairFrom, slotFor, opened, firstPoint, holding, keeping}
+use Rattle.rules.specs.Steps.{mark, points, pairFrom, slotFor, opened, firstPoint, holding, keeping, taken, readyDue}
 use Rattle.rules.specs.Laws.Shape.{ShapedSlot}
-use Rattle.rules.specs.Laws.Facts.{Side, byEcho, byReady, marksOf, ear}
+use Rattle.rules.specs.declared.Side.{Side}
+use Rattle.rules.specs.declared.Side.the-variants.{ByEcho, ByReady}
+use Rattle.rules.specs.Laws.Facts.{marksOf, ear}
 use Rattle.rules.specs.Laws.Room.{Found}
-use Rattle.rules.specs.Laws.Kept.TakenSlot.{taken, firstAt, mark-own, mark-other, place-own, place-other}
+use Rattle.rules.specs.Laws.Kept.TakenSlot.{mark-own, mark-other, place-own, place-other}
 use Rattle.rules.specs.Laws.Kept.Changes.{Good}
 use Rattle.demands.specs.Lives.Slots.{slotOf, slot-agree}
 use Rattle.demands.specs.Lives.Replaced.{dressed, open-as, slot-own, slot-other, slot-stays}
@@ -45,10 +47,10 @@ module _ (w : Slot) (shape : ShapedSlot w) (m i : ℕ) (l : m < 10) where
   -- the sender is marked for the side, and who was marked before
   pub taken-mark : (a b : Side) (f : Four)
       → marked (marksOf a (taken b w m f)) i ≡ (eqb (m + 1) (i + 1) and eqb (ear b + 1) (ear a + 1)) or marked (marksOf a w) i
-  taken-mark byEcho byEcho f = set-mark (w .echoed) (shape .echoed) ∙ (rw (and-true (eqb (m + 1) (i + 1))))
-  taken-mark byReady byReady f = set-mark (w .readied) (shape .readied) ∙ (rw (and-true (eqb (m + 1) (i + 1))))
-  taken-mark byEcho byReady f = rw (and-false (eqb (m + 1) (i + 1)))
-  taken-mark byReady byEcho f = rw (and-false (eqb (m + 1) (i + 1)))
+  taken-mark ByEcho ByEcho f = set-mark (w .echoed) (shape .echoed) ∙ (rw (and-true (eqb (m + 1) (i + 1))))
+  taken-mark ByReady ByReady f = set-mark (w .readied) (shape .readied) ∙ (rw (and-true (eqb (m + 1) (i + 1))))
+  taken-mark ByEcho ByReady f = rw (and-false (eqb (m + 1) (i + 1)))
+  taken-mark ByReady ByEcho f = rw (and-false (eqb (m + 1) (i + 1)))
 
   -- its place holds its first point, and every other what it held
   pub taken-point : (b : Side) (f : Four)
@@ -64,7 +66,7 @@ module _ (w : Slot) (shape : ShapedSlot w) (m i : ℕ) (l : m < 10) where
 
 -- slot w took a message of side b, of sender m + 1, and became v, but for its matrix; and whether ready is sent
 pub record SlotTook (u : SetUp) (b : Side) (m : ℕ) (f : Four) (sends : Bool) (w v : Slot) : Type 0 where
-  pub test : sends ≡ firstAt u b (taken b w m f)
+  pub test : sends ≡ readyDue u b (taken b w m f)
   pub places : v .places ≡ holding w m f
   pub marks : (a : Side) → marksOf a v ≡ marksOf a (taken b w m f)
   pub pair : v .pair .kept ≡ pick sends (There (pairFrom (groupOf (u .group) .q) (take (u .k) (points (v .places))))) (w .pair .kept)
@@ -97,10 +99,10 @@ module _ (x : Record) (b : Side) (m : ℕ) (f : Four) (o w : Slot) (e : o ≡ dr
 
   it-marks : (sends : Bool) (a : Side) → marksOf a (after-it sends) ≡ marksOf a (taken b w m f)
   unfolding keeping
-  it-marks true byEcho = ap (λ (v : Slot). taken b v m f .echoed) e
-  it-marks true byReady = ap (λ (v : Slot). taken b v m f .readied) e
-  it-marks false byEcho = ap (λ (v : Slot). taken b v m f .echoed) e
-  it-marks false byReady = ap (λ (v : Slot). taken b v m f .readied) e
+  it-marks true ByEcho = ap (λ (v : Slot). taken b v m f .echoed) e
+  it-marks true ByReady = ap (λ (v : Slot). taken b v m f .readied) e
+  it-marks false ByEcho = ap (λ (v : Slot). taken b v m f .echoed) e
+  it-marks false ByReady = ap (λ (v : Slot). taken b v m f .readied) e
 
   it-pair : (sends : Bool)
       → after-it sends .pair .kept
@@ -109,20 +111,20 @@ module _ (x : Record) (b : Side) (m : ℕ) (f : Four) (o w : Slot) (e : o ≡ dr
   it-pair true = refl
   it-pair false = ap (λ (v : Slot). v .pair .kept) e
 
-  it-test : firstAt (x .setup) b (taken b o m f) ≡ firstAt (x .setup) b (taken b w m f)
+  it-test : readyDue (x .setup) b (taken b o m f) ≡ readyDue (x .setup) b (taken b w m f)
   unfolding countE countR
-  it-test = ap (λ (v : Slot). firstAt (x .setup) b (taken b v m f)) e ∙ bare b
+  it-test = ap (λ (v : Slot). readyDue (x .setup) b (taken b v m f)) e ∙ bare b
     where
-      bare : (c : Side) → firstAt (x .setup) c (taken b (dressed w (o .rows)) m f) ≡ firstAt (x .setup) c (taken b w m f)
-      bare byEcho = refl
-      bare byReady = refl
+      bare : (c : Side) → readyDue (x .setup) c (taken b (dressed w (o .rows)) m f) ≡ readyDue (x .setup) c (taken b w m f)
+      bare ByEcho = refl
+      bare ByReady = refl
 
 -- the slot opened for a matrix, and whether ready is sent when it takes a message
 abbrev openFor : Record → List (List Element) → Slot
 openFor x C = opened C (slotAt x (slotFor x C))
 
 abbrev pub sendsNow : Side → Record → ℕ → List (List Element) → Four → Bool
-sendsNow b x m C f = firstAt (x .setup) b (taken b (openFor x C) m f)
+sendsNow b x m C f = readyDue (x .setup) b (taken b (openFor x C) m f)
 
 module _ (b : Side) (x : Record) (g : Good x) (m : ℕ) (C : List (List Element)) (f : Four) (found : Found x C (slotFor x C)) where
   pub took : Good (stepOf b x m C f .after) → Took x (stepOf b x m C f .after) b m C f (sendsNow b x m C f)

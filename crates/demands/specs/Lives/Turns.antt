@@ -25,7 +25,8 @@ use Rattle.rules.specs.Record.{groupIn, slotAt, matrixOf, isThere, sharesKept, 
 use Rattle.rules.specs.Steps.{Step, heard, withProgress, sending, recoveredFrom, sharePoints, sharing, dealStep, recoverStep}
 use Rattle.rules.specs.Answers.{accepted, refused, answered, shareChecks, deal, recover, Done}
 use Rattle.rules.specs.Laws.DemandOne.{answered-either}
-use Rattle.rules.specs.Laws.Facts.{Side, ear, hears}
+use Rattle.rules.specs.declared.Side.{Side}
+use Rattle.rules.specs.Laws.Facts.{ear, hears}
 use Rattle.rules.specs.Laws.Sound.{facts-sound}
 use Rattle.rules.specs.Laws.Kept.{deal-kept, recover-kept, good-of}
 use Rattle.rules.specs.Laws.Kept.Changes.{Good, hears-stays}

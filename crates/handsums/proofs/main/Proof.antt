@@ -7,24 +7,15 @@ use Rattle.rules.specs.Numbers.{groups}
 use Rattle.handsums.proofs.main.Statement.{statement}
 use Rattle.handsums.proofs.main.Tie as tie
 
-at-requires : tie.Need-at-requires
-at-requires c κs = search needs
-
 sums-requires : tie.Need-sums-requires
 unfolding groups
 sums-requires c κs =
     subst⁻¹ (λ g. (0 < g .p) × (10 ≤ g .q)) (c .at .ensures) (omega arith, omega arith)
-
-at-requires-2 : tie.Need-at-requires-2
-at-requires-2 c κs = search needs
 
 sums-requires-2 : tie.Need-sums-requires-2
 unfolding groups
 sums-requires-2 c κs =
     subst⁻¹ (λ g. (0 < g .p) × (10 ≤ g .q)) (c .at2 .ensures) (omega arith, omega arith)
 
-returns : tie.Need-returns
-returns c = search needs
-
 pub main-spec : {M : Type 1} → statement M
-main-spec = tie.close (tie.spec at-requires sums-requires at-requires-2 sums-requires-2 returns)
+main-spec = tie.close (tie.spec (search needs) sums-requires (search needs) sums-requires-2 (search needs))

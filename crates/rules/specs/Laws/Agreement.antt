@@ -6,7 +6,6 @@ use mathlib.Core.Path.{_≡_, refl, sym, ap, ap₂, _∙_, subst}
 use mathlib.Core.Bool.{true}
 use mathlib.Core.List.{List}
 use Prim.Native.Nat.{ℕ, _*_, _%_, _^_, _<_}
-use lib.Dec.{eqb}
 use Rattle.folds.specs.Tests.{_and_, iff-same}
 use Rattle.folds.specs.Below.{prodBelow-same}
 use Rattle.rules.specs.declared.Element.{Element}
@@ -14,7 +13,7 @@ use Rattle.rules.specs.declared.Four.{Four}
 use Rattle.rules.specs.declared.Group.{Group}
 use Rattle.rules.specs.declared.Pair.{Pair}
 use Rattle.rules.specs.Matrices.{α, α′, β, β′}
-use Rattle.rules.specs.Dealing.{committed, inGroup, matrixPasses, openedAt, pointCheck, shareCheck}
+use Rattle.rules.specs.Dealing.{inGroup, matrixPasses, opens, openedAt, αEquation, βEquation, pointCheck, σEquation, shareCheck}
 use Rattle.rules.specs.Record.{sameMatrix}
 use Rattle.rules.specs.Laws.Sound.{agree-comm, agree-at, agree-all}
 use Rattle.rules.specs.Laws.Checks.{matrix-passes, entry-in}
@@ -45,12 +44,12 @@ module _ (G : Group) (k : ℕ) (C D : List (List Element)) (h : sameMatrix k C D
       (prodBelow-same _ _ k (λ j a. prodBelow-same _ _ k (λ l b. ap (λ (n : ℕ). n ^ (x ^ j * y ^ l)) (agree-at k C D h j l a b))))
 
   pub point-agree : (i m : ℕ) (f : Four) → pointCheck G k C i m f ≡ pointCheck G k D i m f
-  unfolding pointCheck
+  unfolding pointCheck αEquation βEquation
   point-agree i m f =
-      ap₂ (λ (a b : ℕ). eqb (committed G (α f) (α′ f)) a and eqb (committed G (β f) (β′ f)) b) (opened-agree m i) (opened-agree i m)
+      ap₂ (λ (a b : ℕ). opens G (α f) (α′ f) a and opens G (β f) (β′ f) b) (opened-agree m i) (opened-agree i m)
 
   pub share-agree : 0 < k → (m : ℕ) (s : Pair) → shareCheck G k C m s ≡ shareCheck G k D m s
-  unfolding shareCheck
+  unfolding shareCheck σEquation
   share-agree z m s =
-      ap (λ (n : ℕ). eqb (committed G (s .first .0) (s .second .0)) (n % G .p))
+      ap (λ (n : ℕ). opens G (s .first .0) (s .second .0) (n % G .p))
       (prodBelow-same _ _ k (λ j a. ap (λ (n : ℕ). n ^ (m ^ j)) (agree-at k C D h j 0 a z)))

@@ -1,11 +1,12 @@
 -- The checks: what the tests of a matrix, of polynomials, points and shares come to.
 --
--- In order: the entries of a matrix; the products of its entries along a column and along a row, and the product at (x, y) out
--- of these; the three checks; exponents below q, and those that a box computes.
+-- In order: an equation; the entries of a matrix; the products of its entries along a column and along a row, and the product
+-- at (x, y) out of these; the equations and the three checks; exponents below q, and those that a box computes.
 -- Assumes nothing.
 use mathlib.Core.Path.{_≡_, sym, ap, _∙_}
 use mathlib.Core.Bool.{true, not}
 use mathlib.Core.List.{List}
+use mathlib.Core.Logic.{_↔_}
 use Prim.Native.Nat.{ℕ, suc, _-_, _%_, _^_, _<_}
 use native.Mathlib.Nat.{mul-zero, pow-suc, zero-mod}
 use native.Mathlib.Omega.{arith}
@@ -23,9 +24,15 @@ use Rattle.rules.specs.declared.Group.{Group}
 use Rattle.rules.specs.declared.Pair.{Pair}
 use Rattle.rules.specs.declared.Polynomials.{Polynomials}
 use Rattle.rules.specs.Matrices.{entry, coefficient, α, α′, β, β′}
-use Rattle.rules.specs.Dealing.{committed, inGroup, matrixPasses, coefficientsBelow, polynomialsBelow, fourBelow, pairBelow, polynomialCheck, openedAt, pointCheck, shareCheck}
+use Rattle.rules.specs.Dealing.{committed, inGroup, matrixPasses, coefficientsBelow, polynomialsBelow, fourBelow, pairBelow, opens, alongColumn, alongRow, lEquation, jEquation, polynomialCheck, openedAt, αEquation, βEquation, pointCheck, σEquation, shareCheck}
 use Rattle.rules.specs.Steps.{Said, through, pairFrom, readyFour, echoFour, recoveredFrom}
 use Rattle.rules.specs.Laws.Dealing.{value-below}
+
+-- ---- an equation of a check
+
+pub opened-by : (G : Group) (x y e : ℕ) → (opens G x y e ≡ true) ↔ (committed G x y ≡ e)
+unfolding opens
+opened-by G x y e = (eqb-true (committed G x y) e, eq-eqb (committed G x y) e)
 
 -- ---- the entries
 
@@ -49,13 +56,6 @@ module _ (G : Group) where
       (λ j hj. allBelow-all (λ l. inGroup G (entry C j l)) k (λ l hl. h j l hj hl))
 
 module _ (G : Group) (k : ℕ) (C : List (List Element)) where
-  -- the product over j of C(j,l)^(i^j), and the one over l of C(j,l)^(i^l)
-  abbrev pub alongColumn : ℕ → ℕ → ℕ
-  alongColumn i l = prodBelow k (λ j. entry C j l ^ (i ^ j))
-
-  abbrev pub alongRow : ℕ → ℕ → ℕ
-  alongRow i j = prodBelow k (λ l. entry C j l ^ (i ^ l))
-
   module _ (passes : matrixPasses G k C ≡ true) where
     pub entry-in : (j l : ℕ) → j < k → l < k → inGroup G (entry C j l) ≡ true
     unfolding matrixPasses
@@ -75,71 +75,66 @@ module _ (G : Group) (k : ℕ) (C : List (List Element)) where
         eqb-true (e ^ G .q % G .p) 1 (and-right (ltb e (G .p)) _ (and-right (not (eqb e 0)) _ (entry-in j l hj hl)))
 
     -- The products are members too.
-    pub column-member : 1 < G .p → (i l : ℕ) → l < k → alongColumn i l ^ G .q % G .p ≡ 1
+    pub column-member : 1 < G .p → (i l : ℕ) → l < k → alongColumn k C i l ^ G .q % G .p ≡ 1
     column-member big i l hl = prod-member (G .q) (G .p) k (λ j. entry C j l) (λ j hj. entry-member j l hj hl) big (λ j. i ^ j)
 
-    pub row-member : 1 < G .p → (i j : ℕ) → j < k → alongRow i j ^ G .q % G .p ≡ 1
+    pub row-member : 1 < G .p → (i j : ℕ) → j < k → alongRow k C i j ^ G .q % G .p ≡ 1
     row-member big i j hj = prod-member (G .q) (G .p) k (entry C j) (λ l hl. entry-member j l hj hl) big (λ l. i ^ l)
 
   -- The product at (x, y) is made of the columns' products, and of the rows'.
-  pub opened-columns : (x y : ℕ) → openedAt G k C x y ≡ prodBelow k (λ l. alongColumn x l ^ (y ^ l)) % G .p
+  pub opened-columns : (x y : ℕ) → openedAt G k C x y ≡ prodBelow k (λ l. alongColumn k C x l ^ (y ^ l)) % G .p
   unfolding openedAt
   opened-columns x y = ap (λ t. t % G .p) (prod-columns k k (λ j. x ^ j) (λ l. y ^ l) (entry C))
 
-  pub opened-rows : (x y : ℕ) → openedAt G k C x y ≡ prodBelow k (λ j. alongRow y j ^ (x ^ j)) % G .p
+  pub opened-rows : (x y : ℕ) → openedAt G k C x y ≡ prodBelow k (λ j. alongRow k C y j ^ (x ^ j)) % G .p
   unfolding openedAt
   opened-rows x y = ap (λ t. t % G .p) (prod-rows k k (λ j. x ^ j) (λ l. y ^ l) (entry C))
 
-  -- ---- the checks
+  -- ---- the equations
 
-  pub polynomial-checks : (i : ℕ) (P : Polynomials)
-      → ((l : ℕ) → l < k → committed G (coefficient (P .a) l) (coefficient (P .a2) l) ≡ alongColumn i l % G .p)
-      → ((j : ℕ) → j < k → committed G (coefficient (P .b) j) (coefficient (P .b2) j) ≡ alongRow i j % G .p)
-      → polynomialCheck G k C i P ≡ true
-  unfolding polynomialCheck
-  polynomial-checks i P h h′ =
-      and-intro _ _
-      (allBelow-all _ k (λ l hl. eq-eqb _ _ (h l hl)))
-      (allBelow-all _ k (λ j hj. eq-eqb _ _ (h′ j hj)))
+  module _ (i : ℕ) (P : Polynomials) where
+    pub l-equation : (l : ℕ) → (lEquation G k C i P l ≡ true) ↔ (committed G (coefficient (P .a) l) (coefficient (P .a2) l) ≡ alongColumn k C i l % G .p)
+    unfolding lEquation
+    l-equation l = opened-by G _ _ _
 
-  module _ (i : ℕ) (P : Polynomials) (passes : polynomialCheck G k C i P ≡ true) where
-    pub polynomial-columns : (l : ℕ) → l < k → committed G (coefficient (P .a) l) (coefficient (P .a2) l) ≡ alongColumn i l % G .p
+    pub j-equation : (j : ℕ) → (jEquation G k C i P j ≡ true) ↔ (committed G (coefficient (P .b) j) (coefficient (P .b2) j) ≡ alongRow k C i j % G .p)
+    unfolding jEquation
+    j-equation j = opened-by G _ _ _
+
+    -- ---- the checks
+
+    pub polynomial-checks : ((l : ℕ) → l < k → lEquation G k C i P l ≡ true) → ((j : ℕ) → j < k → jEquation G k C i P j ≡ true)
+        → polynomialCheck G k C i P ≡ true
     unfolding polynomialCheck
-    polynomial-columns l hl =
-        eqb-true _ _
-        (allBelow-at (λ l. eqb (committed G (coefficient (P .a) l) (coefficient (P .a2) l)) (alongColumn i l % G .p)) k l
-        (and-left _ _ passes) hl)
+    polynomial-checks h h′ = and-intro _ _ (allBelow-all _ k h) (allBelow-all _ k h′)
 
-    pub polynomial-rows : (j : ℕ) → j < k → committed G (coefficient (P .b) j) (coefficient (P .b2) j) ≡ alongRow i j % G .p
-    unfolding polynomialCheck
-    polynomial-rows j hj =
-        eqb-true _ _
-        (allBelow-at (λ j. eqb (committed G (coefficient (P .b) j) (coefficient (P .b2) j)) (alongRow i j % G .p)) k j
-        (and-right (allBelow k (λ l. eqb (committed G (coefficient (P .a) l) (coefficient (P .a2) l)) (alongColumn i l % G .p))) _ passes)
-        hj)
+    module _ (passes : polynomialCheck G k C i P ≡ true) where
+      pub polynomial-columns : (l : ℕ) → l < k → committed G (coefficient (P .a) l) (coefficient (P .a2) l) ≡ alongColumn k C i l % G .p
+      unfolding polynomialCheck
+      polynomial-columns l hl = l-equation l .0 (allBelow-at (lEquation G k C i P) k l (and-left _ _ passes) hl)
+
+      pub polynomial-rows : (j : ℕ) → j < k → committed G (coefficient (P .b) j) (coefficient (P .b2) j) ≡ alongRow k C i j % G .p
+      unfolding polynomialCheck
+      polynomial-rows j hj = j-equation j .0 (allBelow-at (jEquation G k C i P) k j (and-right (allBelow k (lEquation G k C i P)) _ passes) hj)
 
   module _ (i m : ℕ) (f : Four) where
     pub point-checks : committed G (α f) (α′ f) ≡ openedAt G k C m i → committed G (β f) (β′ f) ≡ openedAt G k C i m
         → pointCheck G k C i m f ≡ true
-    unfolding pointCheck
-    point-checks h h′ = and-intro _ _ (eq-eqb _ _ h) (eq-eqb _ _ h′)
+    unfolding pointCheck αEquation βEquation
+    point-checks h h′ = and-intro _ _ (opened-by G _ _ _ .1 h) (opened-by G _ _ _ .1 h′)
 
     pub point-α : pointCheck G k C i m f ≡ true → committed G (α f) (α′ f) ≡ openedAt G k C m i
-    unfolding pointCheck
-    point-α h = eqb-true _ _ (and-left (eqb (committed G (α f) (α′ f)) (openedAt G k C m i)) _ h)
+    unfolding pointCheck αEquation
+    point-α h = opened-by G _ _ _ .0 (and-left (αEquation G k C i m f) _ h)
 
     pub point-β : pointCheck G k C i m f ≡ true → committed G (β f) (β′ f) ≡ openedAt G k C i m
-    unfolding pointCheck
-    point-β h = eqb-true _ _ (and-right (eqb (committed G (α f) (α′ f)) (openedAt G k C m i)) _ h)
+    unfolding pointCheck βEquation
+    point-β h = opened-by G _ _ _ .0 (and-right (αEquation G k C i m f) _ h)
 
-  module _ (m : ℕ) (s : Pair) where
-    pub share-checks : committed G (s .first .0) (s .second .0) ≡ alongColumn m 0 % G .p → shareCheck G k C m s ≡ true
-    unfolding shareCheck
-    share-checks h = eq-eqb _ _ h
-
-    pub share-opens : shareCheck G k C m s ≡ true → committed G (s .first .0) (s .second .0) ≡ alongColumn m 0 % G .p
-    unfolding shareCheck
-    share-opens h = eqb-true _ _ h
+  -- the share check is its one equation
+  pub share-equation : (m : ℕ) (s : Pair) → (shareCheck G k C m s ≡ true) ↔ (committed G (s .first .0) (s .second .0) ≡ alongColumn k C m 0 % G .p)
+  unfolding shareCheck σEquation
+  share-equation m s = opened-by G _ _ _
 
 -- ---- exponents below q
 

@@ -19,29 +19,30 @@ use Rattle.algebra.specs.Sums.{sum-cong}
 use Rattle.algebra.specs.Polynomials.{sum-nought}
 use Rattle.algebra.specs.Commitments.{sum-rows, sum-columns}
 use Rattle.rules.specs.declared.Exponent.{Exponent}
-use Rattle.rules.specs.Numbers.{exponent}
+use Rattle.rules.specs.declared.SetUp.{SetUp}
+use Rattle.rules.specs.Numbers.{exponent, groupOf}
 use Rattle.rules.specs.Matrices.{coefficient, coefficient₂}
 use Rattle.rules.specs.Dealing.{fromCoins, fOf, f′Of, alongY, alongX, coinsKeep, valueAt}
 use Rattle.rules.specs.Laws.Matrices.{matrix-at, coefficient-at, square-some}
 
 -- ---- coefficients
 
+module _ (u : SetUp) (small : u .k ≤ 8) (secret : ℕ) (coins : List ℕ) (j l : ℕ) (hj : j < u .k) (hl : l < u .k) where
+  fromCoins-at : (from : ℕ) → coefficient₂ (fromCoins u secret coins from) j l ≡ getD (secret ∷ coins) (from + (j * u .k + l)) 0
+  unfolding fromCoins
+  fromCoins-at from =
+      ap (λ (x : Exponent). x .0)
+      (matrix-at (u .k) (exponent 0) (λ j l. exponent (getD (secret ∷ coins) (from + (j * u .k + l)) 0)) small j l hj hl)
+
+  pub fOf-at : coefficient₂ (fOf u secret coins) j l ≡ getD (secret ∷ coins) (0 + (j * u .k + l)) 0
+  unfolding fOf
+  fOf-at = fromCoins-at 0
+
+  pub f′Of-at : coefficient₂ (f′Of u secret coins) j l ≡ getD (secret ∷ coins) (u .k * u .k + (j * u .k + l)) 0
+  unfolding f′Of
+  f′Of-at = fromCoins-at (u .k * u .k)
+
 module _ (k : ℕ) (small : k ≤ 8) where
-  module _ (secret : ℕ) (coins : List ℕ) (j l : ℕ) (hj : j < k) (hl : l < k) where
-    fromCoins-at : (from : ℕ) → coefficient₂ (fromCoins k secret coins from) j l ≡ getD (secret ∷ coins) (from + (j * k + l)) 0
-    unfolding fromCoins
-    fromCoins-at from =
-        ap (λ (x : Exponent). x .0)
-        (matrix-at k (exponent 0) (λ j l. exponent (getD (secret ∷ coins) (from + (j * k + l)) 0)) small j l hj hl)
-
-    pub fOf-at : coefficient₂ (fOf k secret coins) j l ≡ getD (secret ∷ coins) (0 + (j * k + l)) 0
-    unfolding fOf
-    fOf-at = fromCoins-at 0
-
-    pub f′Of-at : coefficient₂ (f′Of k secret coins) j l ≡ getD (secret ∷ coins) (k * k + (j * k + l)) 0
-    unfolding f′Of
-    f′Of-at = fromCoins-at (k * k)
-
   module _ (q : ℕ) (f : List (List Exponent)) (i l : ℕ) (hl : l < k) where
     pub alongY-at : coefficient (alongY q k f i) l ≡ sumBelow k (λ j. coefficient₂ f j l * i ^ j) % q
     unfolding alongY
@@ -94,12 +95,15 @@ module _ (k : ℕ) (small : k ≤ 8) (q : ℕ) (f : List (List Exponent)) where
 
 -- ---- the coins
 
-module _ (q k secret : ℕ) (coins : List ℕ) (keeps : coinsKeep q k secret coins ≡ true) where
+module _ (u : SetUp) (secret : ℕ) (coins : List ℕ) (keeps : coinsKeep u secret coins ≡ true) where
+  abbrev q : ℕ
+  q = groupOf (u .group) .q
+
   pub secret-low : secret < q
   unfolding coinsKeep
   secret-low = ltb-true secret q (and-left (ltb secret q) _ keeps)
 
-  pub coins-count : length coins ≡ 2 * (k * k) - 1
+  pub coins-count : length coins ≡ 2 * (u .k * u .k) - 1
   unfolding coinsKeep
   coins-count = eqb-true (length coins) _ (and-left (eqb (length coins) _) _ (and-right (ltb secret q) _ keeps))
 
@@ -111,13 +115,13 @@ module _ (q k secret : ℕ) (coins : List ℕ) (keeps : coinsKeep q k secret coi
       (and-right (eqb (length coins) _) _ (and-right (ltb secret q) _ keeps)) l)
 
 -- f(0, 0) is the secret, and f'(0, 0) coin k².
-module _ (k : ℕ) (some : 0 < k) (small : k ≤ 8) (secret : ℕ) (coins : List ℕ) where
-  pub f-first : coefficient₂ (fOf k secret coins) 0 0 ≡ secret
+module _ (u : SetUp) (some : 0 < u .k) (small : u .k ≤ 8) (secret : ℕ) (coins : List ℕ) where
+  pub f-first : coefficient₂ (fOf u secret coins) 0 0 ≡ secret
   f-first =
-      let here : 0 + (0 * k + 0) ≡ 0 = omega arith in
-      fOf-at k small secret coins 0 0 some some ∙ ap (λ v. getD (secret ∷ coins) v 0) here
+      let here : 0 + (0 * u .k + 0) ≡ 0 = omega arith in
+      fOf-at u small secret coins 0 0 some some ∙ ap (λ v. getD (secret ∷ coins) v 0) here
 
-  pub f′-first : coefficient₂ (f′Of k secret coins) 0 0 ≡ getD coins (k * k - 1) 0
+  pub f′-first : coefficient₂ (f′Of u secret coins) 0 0 ≡ getD coins (u .k * u .k - 1) 0
   f′-first =
-      let here : k * k + (0 * k + 0) ≡ suc (k * k - 1) = omega (arith, square-some k some) in
-      f′Of-at k small secret coins 0 0 some some ∙ ap (λ v. getD (secret ∷ coins) v 0) here
+      let here : u .k * u .k + (0 * u .k + 0) ≡ suc (u .k * u .k - 1) = omega (arith, square-some (u .k) some) in
+      f′Of-at u small secret coins 0 0 some some ∙ ap (λ v. getD (secret ∷ coins) v 0) here

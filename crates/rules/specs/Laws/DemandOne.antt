@@ -1,11 +1,11 @@
 -- Demand 1: every call gets a numbered answer; a refused call writes nothing, and changes the record only by the "heard" mark.
 --
--- In order: the first row of a table that holds; (a) and (c), which number each call gives; an answer by its number; (b), what a
--- refusal leaves; and that two outcomes which a call's promise allows are equal.
+-- In order: (a) and (c), which number each call gives; an answer by its number; (b), what a refusal leaves; and that two outcomes
+-- which a call's promise allows are equal.
 -- Assumes nothing.
 use mathlib.Core.Path.{_≡_, refl, sym, ap, _∙_, subst}
-use mathlib.Core.Bool.{Bool, true, false, not}
-use mathlib.Core.List.{List, [], _∷_, map}
+use mathlib.Core.Bool.{Bool, true, false}
+use mathlib.Core.List.{List, [], _∷_}
 use mathlib.Core.Logic.{_↔_, _≢_, _⊎_, inl, inr, ⊎-elim}
 use Prim.Native.Nat.{ℕ, _-_, _≤_, _<_}
 use native.Mathlib.Omega.{arith}
@@ -13,8 +13,8 @@ use lib.Dec.{eqb, leb}
 use native.Mathlib.Decide.{ℕ-discrete}
 use lib.ListN.{length, getD, set}
 use lib.Seq.{getD-set-same, getD-set-other}
-use borrow.Author.Tests.{eqb-true, eqb-false, ne-eqb, le-leb, leb-true, not-true, eq-eqb}
-use Rattle.folds.specs.Tests.{_and_, _or_, pick, pick-true, pick-false, true≢false, and-left, and-right, or-cases, decide}
+use borrow.Author.Tests.{eqb-true, ne-eqb, le-leb, leb-true, eq-eqb}
+use Rattle.folds.specs.Tests.{_and_, _or_, pick, pick-true, pick-false, and-left, and-right, and-intro, or-cases, eq-same, decide}
 use Rattle.rules.specs.declared.Marks.{Marks}
 use Rattle.rules.specs.declared.Record.{Record}
 use Rattle.rules.specs.declared.SetUp.{SetUp}
@@ -25,73 +25,8 @@ use Rattle.rules.specs.Messages.{tagIn, hasMatrix, written}
 use Rattle.rules.specs.Record.{noMarks, marked, heardFor, zeroRecord}
 use Rattle.rules.specs.Steps.{Step, mark, heard}
 use Rattle.rules.specs.Laws.Shape.{Shaped}
-use Rattle.rules.specs.Answers.{Refusal, firstOf, Done, done, noPair, accepted, refused, outcomeOf, answered, setUpRows, setUp, SetsUp, dealRows, deal, Deals, recoverRows, recover, Recovers, deliverRows, refusalHeard, deliver, Delivers, DeliversLent}
-
--- ---- the first row of a table that holds
-
--- row x of a table holds
-unfoldable pub row : List Refusal → ℕ → Bool
-row [] x = false
-row (y ∷ ys) x = pick (eqb (y .number) x) (y .holds) (row ys x)
-
--- no row that comes before row x holds
-unfoldable pub noneBefore : List Refusal → ℕ → Bool
-noneBefore [] x = true
-noneBefore (y ∷ ys) x = pick (eqb (y .number) x) true (not (y .holds) and noneBefore ys x)
-
--- no row holds
-unfoldable pub none : List Refusal → Bool
-none [] = true
-none (y ∷ ys) = not (y .holds) and none ys
-
--- a number does not occur, and the numbers of a table are different and not 0
-unfoldable lacks : ℕ → List ℕ → Bool
-lacks x [] = true
-lacks x (y ∷ ys) = not (eqb y x) and lacks x ys
-
-unfoldable distinct : List ℕ → Bool
-distinct [] = true
-distinct (y ∷ ys) = lacks y ys and distinct ys
-
-abbrev numbers : List Refusal → List ℕ
-numbers = map (λ y. y .number)
-
--- a number other than 0 that does not occur is not given
-first-lacks : (xs : List Refusal) (x : ℕ) → x ≢ 0 → lacks x (numbers xs) ≡ true → firstOf xs ≡ x → ⊥
-unfolding firstOf lacks
-first-lacks [] x z h e = z (sym e)
-first-lacks (y ∷ ys) x z h e = go (y .holds) (first-lacks ys x z (and-right (not (eqb (y .number) x)) (lacks x (numbers ys)) h)) e
-  where
-    go : (b : Bool) → (firstOf ys ≡ x → ⊥) → pick b (y .number) (firstOf ys) ≡ x → ⊥
-    go true f e = eqb-false (y .number) x (not-true _ (and-left (not (eqb (y .number) x)) (lacks x (numbers ys)) h)) e
-    go false f e = f e
-
--- its number is given exactly when a row holds and no row before it does
-first-row : (xs : List Refusal) → distinct (numbers xs) ≡ true → (x : ℕ) → x ≢ 0 → (firstOf xs ≡ x) ↔ ((row xs x ≡ true) × (noneBefore xs x ≡ true))
-unfolding firstOf row noneBefore distinct
-first-row [] d x z = ((λ e. absurd (z (sym e))), λ h. absurd (true≢false (sym (h .0))))
-first-row (y ∷ ys) d x z = go (y .holds) (eqb (y .number) x) refl (first-row ys (and-right (lacks (y .number) (numbers ys)) (distinct (numbers ys)) d) x z)
-  where
-    absent : y .number ≡ x → firstOf ys ≡ x → ⊥
-    absent q = first-lacks ys x z (subst (λ n. lacks n (numbers ys) ≡ true) q (and-left (lacks (y .number) (numbers ys)) (distinct (numbers ys)) d))
-
-    go : (b c : Bool) → eqb (y .number) x ≡ c → (firstOf ys ≡ x) ↔ ((row ys x ≡ true) × (noneBefore ys x ≡ true))
-        → (pick b (y .number) (firstOf ys) ≡ x) ↔ ((pick c b (row ys x) ≡ true) × (pick c true (not b and noneBefore ys x) ≡ true))
-    go true true q ih = ((λ e. (refl, refl)), λ h. eqb-true (y .number) x q)
-    go true false q ih = ((λ e. absurd (eqb-false (y .number) x q e)), λ h. absurd (true≢false (sym (h .1))))
-    go false true q ih = ((λ e. absurd (absent (eqb-true (y .number) x q) e)), λ h. absurd (true≢false (sym (h .0))))
-    go false false q ih = ih
-
--- 0 is given exactly when no row holds
-first-none : (xs : List Refusal) → lacks 0 (numbers xs) ≡ true → (firstOf xs ≡ 0) ↔ (none xs ≡ true)
-unfolding firstOf none lacks
-first-none [] d = ((λ e. refl), λ h. refl)
-first-none (y ∷ ys) d = go (y .holds) (first-none ys (and-right (not (eqb (y .number) 0)) (lacks 0 (numbers ys)) d))
-  where
-    go : (b : Bool) → (firstOf ys ≡ 0) ↔ (none ys ≡ true) → (pick b (y .number) (firstOf ys) ≡ 0) ↔ (not b and none ys ≡ true)
-    go true ih =
-        ((λ e. absurd (eqb-false (y .number) 0 (not-true _ (and-left (not (eqb (y .number) 0)) (lacks 0 (numbers ys)) d)) e)), λ h. absurd (true≢false (sym h)))
-    go false ih = ih
+use Rattle.rules.specs.Answers.{Refusal, firstRow, firstOf, Done, done, noPair, accepted, refused, outcomeOf, answered, setUpRows, setUp, SetsUp, callRows, ownDealRows, dealRows, deal, Deals, ownRecoverRows, recoverRows, recover, Recovers, formRows, turnRows, hearingRows, earlyRows, deliverRows, refusalHeard, deliver, Delivers, DeliversLent}
+use Rattle.rules.specs.Laws.Table.{row, noneBefore, none, lacks, distinct, numbers, first-row, first-none, marksBy, first-marks}
 
 -- ---- (a) and (c): which number a call gives
 
@@ -127,18 +62,18 @@ set-up-number u = by-table _ _ _ refl refl refl (outcome-number _ _ _)
 
 -- "Commands 15, 12, 13, 14."
 pub deal-number : (x : Record) (secret : ℕ) (coins buffer : List ℕ)
-    → ByTable (15 ∷ 12 ∷ 13 ∷ 14 ∷ []) (dealRows x secret coins buffer) (deal x secret coins buffer .outcome .answer .no)
-unfolding deal dealRows answered distinct lacks
+    → ByTable (15 ∷ 12 ∷ 13 ∷ 14 ∷ []) (dealRows x secret coins (length buffer)) (deal x secret coins buffer .outcome .answer .no)
+unfolding deal dealRows callRows ownDealRows answered distinct lacks
 deal-number x secret coins buffer = by-table _ _ _ refl refl refl (outcome-number _ _ _)
 
-pub recover-number : (x : Record) (buffer : List ℕ) → ByTable (15 ∷ 12 ∷ 13 ∷ []) (recoverRows x buffer) (recover x buffer .outcome .answer .no)
-unfolding recover recoverRows answered distinct lacks
+pub recover-number : (x : Record) (buffer : List ℕ) → ByTable (15 ∷ 12 ∷ 13 ∷ []) (recoverRows x (length buffer)) (recover x buffer .outcome .answer .no)
+unfolding recover recoverRows callRows ownRecoverRows answered distinct lacks
 recover-number x buffer = by-table _ _ _ refl refl refl (outcome-number _ _ _)
 
 -- "Delivery 15, 12, then 1 to 10 by number."
 pub deliver-number : (x : Record) (sender : ℕ) (bytes buffer : List ℕ)
-    → ByTable (15 ∷ 12 ∷ 1 ∷ 2 ∷ 3 ∷ 4 ∷ 5 ∷ 6 ∷ 7 ∷ 8 ∷ 9 ∷ 10 ∷ []) (deliverRows x sender bytes buffer) (deliver x sender bytes buffer .outcome .answer .no)
-unfolding deliver deliverRows answered distinct lacks
+    → ByTable (15 ∷ 12 ∷ 1 ∷ 2 ∷ 3 ∷ 4 ∷ 5 ∷ 6 ∷ 7 ∷ 8 ∷ 9 ∷ 10 ∷ []) (deliverRows x sender bytes (length buffer)) (deliver x sender bytes buffer .outcome .answer .no)
+unfolding deliver deliverRows earlyRows callRows formRows turnRows hearingRows answered distinct lacks
 deliver-number x sender bytes buffer = by-table _ _ _ refl refl refl (outcome-number _ _ _)
 
 -- ---- an answer by its number
@@ -232,10 +167,23 @@ test-heard n tag t = (
   leb-true tag 3 (and-right (eqb n 8 or eqb n 9 or eqb n 10) (leb tag 3) t),
 )
 
+-- The rows of a delivery that mark the sender heard.
+pub deliver-marks : (x : Record) (sender : ℕ) (bytes : List ℕ) (lent : ℕ)
+    → firstRow (deliverRows x sender bytes lent) .marks ≡ toHear (firstOf (deliverRows x sender bytes lent)) (tagIn bytes)
+unfolding deliverRows earlyRows callRows formRows turnRows hearingRows marksBy
+deliver-marks x sender bytes lent =
+    first-marks (λ n. toHear n (tagIn bytes)) (deliverRows x sender bytes lent) refl
+    (and-intro _ _ (eq-same (hasMatrix (tagIn bytes)) _ refl)
+    (and-intro _ _ (eq-same (hasMatrix (tagIn bytes)) _ refl) (and-intro _ _ (eq-same (hasMatrix (tagIn bytes)) _ refl) refl)))
+
+pub marked-tag : (x : Record) (sender : ℕ) (bytes : List ℕ) (lent : ℕ) → firstRow (deliverRows x sender bytes lent) .marks ≡ true → tagIn bytes ≤ 3
+marked-tag x sender bytes lent e =
+    test-heard (firstOf (deliverRows x sender bytes lent)) (tagIn bytes) (sym (deliver-marks x sender bytes lent) ∙ e) .1
+
 -- the refusal n of a delivery, where the record after it is this one
-deliver-leaves : (n : ℕ) (step : Step) (x after : Record) (sender : ℕ) (bytes buffer : List ℕ) → n ≢ 0 → refusalHeard n x sender bytes ≡ after
-    → Refused after buffer (answered n step (refusalHeard n x sender bytes) buffer)
-deliver-leaves n step x after sender bytes buffer z e = rw e (answering n step after buffer z)
+deliver-leaves : (n : ℕ) (m : Bool) (step : Step) (x after : Record) (sender : ℕ) (bytes buffer : List ℕ) → n ≢ 0 → refusalHeard m x sender bytes ≡ after
+    → Refused after buffer (answered n step (refusalHeard m x sender bytes) buffer)
+deliver-leaves n m step x after sender bytes buffer z e = rw e (answering n step after buffer z)
 
 -- a refused delivery leaves the record as it came,
 pub deliver-refused : (x : Record) (sender : ℕ) (bytes buffer : List ℕ) → deliver x sender bytes buffer .outcome .answer .no ≢ 0
@@ -243,19 +191,24 @@ pub deliver-refused : (x : Record) (sender : ℕ) (bytes buffer : List ℕ) → 
     → Refused x buffer (deliver x sender bytes buffer)
 unfolding deliver answered refusalHeard
 deliver-refused x sender bytes buffer z h =
-    let n = firstOf (deliverRows x sender bytes buffer) in
+    let n = firstOf (deliverRows x sender bytes (length buffer)) in
     let no≡ = outcome-number n _ _ in
-    deliver-leaves n _ x x sender bytes buffer (renumber _ _ _ z)
-    (⊎-elim (λ t. absurd (h (subst (λ m. Heard m (tagIn bytes)) (sym no≡) (test-heard n (tagIn bytes) t)))) (λ f. pick-false _ _ _ f) (decide (toHear n (tagIn bytes))))
+    let m = firstRow (deliverRows x sender bytes (length buffer)) .marks in
+    let marks = deliver-marks x sender bytes (length buffer) in
+    deliver-leaves n m _ x x sender bytes buffer (renumber _ _ _ z)
+    (⊎-elim (λ t. absurd (h (subst (λ m. Heard m (tagIn bytes)) (sym no≡) (test-heard n (tagIn bytes) t))))
+    (λ f. pick-false m (heard x (tagIn bytes) (sender - 1)) x (marks ∙ f)) (decide (toHear n (tagIn bytes))))
 
 -- or marks its sender heard for its tag
 pub deliver-heard : (x : Record) (sender : ℕ) (bytes buffer : List ℕ) → Heard (deliver x sender bytes buffer .outcome .answer .no) (tagIn bytes)
     → Refused (heard x (tagIn bytes) (sender - 1)) buffer (deliver x sender bytes buffer)
 unfolding deliver answered refusalHeard
 deliver-heard x sender bytes buffer h =
-    let n = firstOf (deliverRows x sender bytes buffer) in
+    let n = firstOf (deliverRows x sender bytes (length buffer)) in
     let h′ : Heard n (tagIn bytes) = subst (λ m. Heard m (tagIn bytes)) (outcome-number n _ _) h in
-    deliver-leaves n _ x _ sender bytes buffer (λ e. nonzero (h′ .0) e) (pick-true _ _ _ (heard-test n (tagIn bytes) h′))
+    let m = firstRow (deliverRows x sender bytes (length buffer)) .marks in
+    deliver-leaves n m _ x _ sender bytes buffer (λ e. nonzero (h′ .0) e)
+    (pick-true m (heard x (tagIn bytes) (sender - 1)) x (deliver-marks x sender bytes (length buffer) ∙ heard-test n (tagIn bytes) h′))
   where
     nonzero : {n : ℕ} → (n ≡ 8) ⊎ ((n ≡ 9) ⊎ (n ≡ 10)) → n ≡ 0 → ⊥
     nonzero (inl e) z = omega arith

@@ -8,26 +8,28 @@ use mathlib.Core.Path.{_≡_, refl, sym, ap, _∙_}
 use Prim.Native.Nat.{ℕ, _+_, _-_, _*_, _≤_}
 use native.Mathlib.Nat.{mul-le-mul}
 use native.Mathlib.Omega.{arith}
-use lib.Dec.{eqb, ltb}
+use lib.Dec.{eqb}
 use lib.ListN.{length, getD, take, drop, length-append, length-drop}
 use lib.Seq.{take-append-seam, getD-append-add, getD-drop, take-at}
-use Rattle.folds.specs.Tests.{_and_, pick, and-right}
+use Rattle.folds.specs.Tests.{pick, and-right}
 use Rattle.folds.specs.Runs.{gather, length-gather, length-gather-le, stands-piece}
 use Rattle.rules.specs.declared.Exponent.{Exponent}
 use Rattle.rules.specs.declared.Element.{Element}
 use Rattle.rules.specs.declared.Four.{Four}
 use Rattle.rules.specs.declared.Polynomials.{Polynomials}
 use Rattle.rules.specs.declared.SetUp.{SetUp}
+use Rattle.rules.specs.declared.Side.{Side}
+use Rattle.rules.specs.declared.Side.the-variants.{ByEcho, ByReady}
 use Rattle.rules.specs.declared.Slot.{Slot}
 use Rattle.rules.specs.declared.Keep.{Keep}
 use Rattle.rules.specs.declared.Kept.{Kept}
 use Rattle.rules.specs.declared.Kept.the-variants.{Absent, There}
 use Rattle.rules.specs.declared.Record.{Record}
-use Rattle.rules.specs.Numbers.{groupKeeps, echoQuorum}
+use Rattle.rules.specs.Numbers.{groupKeeps}
 use Rattle.rules.specs.Matrices.{entry, coefficient}
 use Rattle.rules.specs.Messages.{Message, send, echo, ready, recovery, twoBytes, matrixBytes, coefficientBytes, polynomialBytes, fourBytes, pairBytes, tagOf, bodyOf, framed, bytesOf, wholeLength, toEach, written}
-use Rattle.rules.specs.Record.{sharesKept, countE, countR, setupKeeps, sound}
-use Rattle.rules.specs.Steps.{Step, Said, heard, quiet, withSlot, lowest, sendStep, readySent, echoAt, echoStep, completed, readyAt, readyStep, recovering, shareStep, messageStep, dealStep, completedShare, shareBytes, recoverStep}
+use Rattle.rules.specs.Record.{sharesKept, setupKeeps, sound}
+use Rattle.rules.specs.Steps.{Step, Said, heard, quiet, withSlot, lowest, sendStep, readySent, completed, readyDue, completionDue, pointAt, pointStep, recovering, shareStep, messageStep, dealStep, completedShare, shareBytes, recoverStep}
 use Rattle.rules.specs.Laws.Numbers.{bounds}
 use Rattle.rules.specs.Laws.Clauses.{clauses}
 
@@ -46,48 +48,49 @@ pub length-coefficients : (k : ℕ) (a : List Exponent) → length (coefficientB
 unfolding coefficientBytes
 length-coefficients k a = length-numbers (coefficient a) k ∙ (omega arith)
 
-length-polynomials : (k : ℕ) (P : Polynomials) → length (polynomialBytes k P) ≡ 8 * k
+length-polynomials : (u : SetUp) (P : Polynomials) → length (polynomialBytes u P) ≡ 8 * u .k
 unfolding polynomialBytes
-length-polynomials k P = simp (length-append, length-coefficients) (omega arith)
+length-polynomials u P = simp (length-append, length-coefficients) (omega arith)
 
 -- what goes on with k and the matrix
 length-body : (k : ℕ) (C : List (List Element)) (end : List ℕ) → length (k ∷ matrixBytes k C ++ end) ≡ 1 + 2 * (k * k) + length end
 length-body k C end = rw (length-append, length-matrix) (omega arith)
 
-pub length-header : (u : SetUp) (m : Message) → length (bytesOf u m) ≡ 6 + length (bodyOf (u .k) m)
+pub length-header : (u : SetUp) (m : Message) → length (bytesOf u m) ≡ 6 + length (bodyOf u m)
 unfolding bytesOf framed twoBytes
 length-header u m = omega arith
 
 -- Whole lengths: send 7 + 2k² + 8k; echo and ready 15 + 2k²; recovery share 10.
-pub length-message : (u : SetUp) (m : Message) → length (bytesOf u m) ≡ wholeLength (tagOf m) (u .k)
+pub length-message : (u : SetUp) (m : Message) → length (bytesOf u m) ≡ wholeLength u (tagOf m)
 unfolding bodyOf wholeLength tagOf fourBytes pairBytes twoBytes
 length-message u (send C P) =
-    omega (arith, length-header u (send C P), length-body (u .k) C (polynomialBytes (u .k) P), length-polynomials (u .k) P)
+    omega (arith, length-header u (send C P), length-body (u .k) C (polynomialBytes u P), length-polynomials u P)
 length-message u (echo C f) = omega (arith, length-header u (echo C f), length-body (u .k) C (fourBytes f))
 length-message u (ready C f) = omega (arith, length-header u (ready C f), length-body (u .k) C (fourBytes f))
 length-message u (recovery s) = length-header u (recovery s)
 
 -- No message is shorter than 7 bytes.
-pub wholeLength-least : (tag k : ℕ) → 7 ≤ wholeLength tag k
+pub wholeLength-least : (u : SetUp) (tag : ℕ) → 7 ≤ wholeLength u tag
 unfolding wholeLength
-wholeLength-least tag k = go (eqb tag 1) (eqb tag 4)
+wholeLength-least u tag = go (eqb tag 1) (eqb tag 4)
   where
-    go : (a b : Bool) → 7 ≤ pick a (7 + 2 * (k * k) + 8 * k) (pick b 10 (15 + 2 * (k * k)))
+    go : (a b : Bool) → 7 ≤ pick a (7 + 2 * (u .k * u .k) + 8 * u .k) (pick b 10 (15 + 2 * (u .k * u .k)))
     go true b = omega arith
     go false true = omega arith
     go false false = omega arith
 
 -- For k = 2 the whole lengths are 31, 23, 23, 10.
-pub lengths-at-two : (wholeLength 1 2 ≡ 31) × (wholeLength 2 2 ≡ 23) × (wholeLength 3 2 ≡ 23) × (wholeLength 4 2 ≡ 10)
+pub lengths-at-two : (u : SetUp) → u .k ≡ 2
+    → (wholeLength u 1 ≡ 31) × (wholeLength u 2 ≡ 23) × (wholeLength u 3 ≡ 23) × (wholeLength u 4 ≡ 10)
 unfolding wholeLength
-lengths-at-two = (refl, refl, refl, refl)
+lengths-at-two u e = rw e (refl, refl, refl, refl)
 
 -- ---- room
 
 -- Ten sends at k = 8 need 1,990 bytes.
-pub ten-sends : 10 * wholeLength 1 8 ≡ 1990
+pub ten-sends : (u : SetUp) → u .k ≡ 8 → 10 * wholeLength u 1 ≡ 1990
 unfolding wholeLength
-ten-sends = refl
+ten-sends u e = rw e
 
 -- no message at k ≤ 8 is longer than a send at 8
 pub length-message-le : (u : SetUp) (m : Message) → u .k ≤ 8 → length (bytesOf u m) ≤ 199
@@ -98,21 +101,21 @@ length-message-le u (ready C f) h = omega (arith, length-message u (ready C f), 
 length-message-le u (recovery s) h = omega (arith, length-message u (recovery s))
 
 -- n messages of one tag are n times as long as one.
-pub length-toEach : (u : SetUp) (f : ℕ → Message) (tag : ℕ) → ((j : ℕ) → tagOf (f j) ≡ tag) → length (toEach u f) ≡ u .n * wholeLength tag (u .k)
+pub length-toEach : (u : SetUp) (f : ℕ → Message) (tag : ℕ) → ((j : ℕ) → tagOf (f j) ≡ tag) → length (toEach u f) ≡ u .n * wholeLength u tag
 unfolding toEach
 length-toEach u f tag h =
-    length-gather (λ j. bytesOf u (f (j + 1))) (wholeLength tag (u .k))
-    (λ j. length-message u (f (j + 1)) ∙ ap (λ (t : ℕ). wholeLength t (u .k)) (h (j + 1))) (u .n)
+    length-gather (λ j. bytesOf u (f (j + 1))) (wholeLength u tag)
+    (λ j. length-message u (f (j + 1)) ∙ ap (λ (t : ℕ). wholeLength u t) (h (j + 1))) (u .n)
 
 -- Of n messages of one tag, the one to box j stands behind j - 1 others.
 pub piece-toEach : (u : SetUp) (f : ℕ → Message) (tag : ℕ) → ((j : ℕ) → tagOf (f j) ≡ tag) → (j : ℕ) → 1 ≤ j → j ≤ u .n
-    → take (wholeLength tag (u .k)) (drop ((j - 1) * wholeLength tag (u .k)) (toEach u f)) ≡ bytesOf u (f j)
+    → take (wholeLength u tag) (drop ((j - 1) * wholeLength u tag) (toEach u f)) ≡ bytesOf u (f j)
 unfolding toEach
 piece-toEach u f tag same j a b =
     let run : List ℕ = toEach u f in
-    let w : ℕ = wholeLength tag (u .k) in
+    let w : ℕ = wholeLength u tag in
     let each : (i : ℕ) → length (bytesOf u (f (i + 1))) ≡ w =
-    λ i. length-message u (f (i + 1)) ∙ ap (λ v. wholeLength v (u .k)) (same (i + 1)) in
+    λ i. length-message u (f (i + 1)) ∙ ap (λ v. wholeLength u v) (same (i + 1)) in
     let piece = stands-piece run (λ i. bytesOf u (f (i + 1))) w each 0 (u .n) (j - 1) (omega arith) ([], sym (append-nil run)) in
     let at : (j - 1) * w ≡ 0 + (j - 1) * w = omega arith in
     let back : j - 1 + 1 ≡ j = omega arith in
@@ -143,18 +146,11 @@ module _ (x : Record) (hn : x .setup .n ≤ 10) (hk : x .setup .k ≤ 8) where
   unfolding readySent
   readySent-room s slot ps = toEach-room (x .setup) _ hn hk
 
-  echoAt-room : (s : ℕ) (slot : Slot) → Room (echoAt x s slot)
-  unfolding echoAt
-  echoAt-room s slot =
-      pick-room (eqb (countE slot) (echoQuorum (x .setup)) and ltb (countR slot) (x .setup .k))
-      (readySent x s slot (lowest x slot)) (quiet (withSlot x s slot)) (readySent-room s slot (lowest x slot)) (omega arith)
-
-  readyAt-room : (s : ℕ) (slot : Slot) → Room (readyAt x s slot)
-  unfolding readyAt completed
-  readyAt-room s slot =
-      pick-room (eqb (countR slot) (x .setup .k) and ltb (countE slot) (echoQuorum (x .setup)))
-      (readySent x s slot (lowest x slot)) _ (readySent-room s slot (lowest x slot))
-      (pick-room (eqb (countR slot) (x .setup .k + x .setup .t)) (completed (withSlot x s slot) s) (quiet (withSlot x s slot)) (omega arith) (omega arith))
+  pointAt-room : (b : Side) (s : ℕ) (slot : Slot) → Room (pointAt b x s slot)
+  unfolding pointAt completed
+  pointAt-room b s slot =
+      pick-room (readyDue (x .setup) b slot) _ _ (readySent-room s slot (lowest x slot))
+      (pick-room (completionDue (x .setup) b slot) (completed (withSlot x s slot) s) (quiet (withSlot x s slot)) (omega arith) (omega arith))
 
   recovering-room : (shares : List Keep) → Room (recovering x shares)
   unfolding recovering
@@ -176,10 +172,10 @@ module _ (x : Record) (hn : x .setup .n ≤ 10) (hk : x .setup .k ≤ 8) where
 
 -- A checked message makes a box send at most 1,990 bytes.
 pub messageStep-room : (x : Record) → x .setup .n ≤ 10 → x .setup .k ≤ 8 → (m : ℕ) (msg : Message) → length (messageStep x m msg .bytes) ≤ 1990
-unfolding heard echoStep readyStep shareStep
+unfolding heard pointStep shareStep
 messageStep-room x hn hk m (send C P) = sendStep-room (heard x 1 m) hn hk C P
-messageStep-room x hn hk m (echo C f) = echoAt-room (heard x 2 m) hn hk _ _
-messageStep-room x hn hk m (ready C f) = readyAt-room (heard x 3 m) hn hk _ _
+messageStep-room x hn hk m (echo C f) = pointAt-room (heard x 2 m) hn hk ByEcho _ _
+messageStep-room x hn hk m (ready C f) = pointAt-room (heard x 3 m) hn hk ByReady _ _
 messageStep-room x hn hk m (recovery s) = recovering-room (heard x 4 m) hn hk _
 
 -- No call on a sound record needs more than 1,990 bytes.

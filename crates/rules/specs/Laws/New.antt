@@ -19,7 +19,8 @@ use Rattle.rules.specs.Answers.{setUp, setUpRows, firstOf, outcomeOf, ac
 use Rattle.rules.specs.Laws.Shape.{Shaped, ShapedSlot}
 use Rattle.rules.specs.Laws.Clauses.{is-sound}
 use Rattle.rules.specs.Laws.Numbers.{bounds, quorum}
-use Rattle.rules.specs.Laws.DemandOne.{none, outcome-number, set-up-number}
+use Rattle.rules.specs.Laws.Table.{none}
+use Rattle.rules.specs.Laws.DemandOne.{outcome-number, set-up-number}
 
 -- ---- the lengths
 

@@ -188,3 +188,31 @@ pub group-sizes : (u : SetUp) → groupKeeps u ≡ true → GroupRanges (groupOf
 unfolding groupOf
 group-sizes u h =
     in-range (groupOf (u .group)) (allBelow-at (λ i. inRange (getD groups i noGroup)) 2 (u .group - 1) rows-in-range (in-table u h))
+
+-- How large set-up numbers that keep their rules are, and the numbers of their group: what code asks of them.
+pub record Ranges (u : SetUp) : Type 0 where
+  pub group : groupKeeps u ≡ true
+  pub numbers : GroupRanges (groupOf (u .group))
+  pub boxes : u .n ≤ 10
+  pub faults : u .t ≤ 10
+  pub low : 2 ≤ u .k
+  pub high : u .k ≤ 8
+  pub own : u .i ≤ 10
+  pub dealer : u .d < 256
+  pub session : u .session < 65536
+
+pub ranges : (u : SetUp) → groupKeeps u ≡ true → numbersKeep u ≡ true → Ranges u
+ranges u g h =
+    let b = bounds u h in
+    let s = b .sizes in
+    record {
+      group = g;
+      numbers = group-sizes u g;
+      boxes = s .boxes;
+      faults = omega (arith, s .rest, s .boxes);
+      low = s .low;
+      high = s .high;
+      own = omega (arith, b .own .1, s .boxes);
+      dealer = omega (arith, s .boxes, b .dealer .1);
+      session = omega (arith, b .session);
+    }

@@ -65,7 +65,7 @@ module _ (u : SetUp) (keeps : groupKeeps u ≡ true) (high : u .k ≤ 8) where
   entry-small : (C : List (List Element)) → matrixPasses group (u .k) C ≡ true → (j l : ℕ) → j < u .k → l < u .k → entry C j l < 65536
   entry-small C passes j l hj hl = let a = entry-below group (u .k) C passes j l hj hl in let b = group-sizes u keeps .modulus-small in omega arith
 
-  pub read-room : (bytes : List ℕ) → matrixPasses group (u .k) (matrixIn (u .k) bytes) ≡ true → MatrixFits (u .k) (matrixIn (u .k) bytes)
+  pub read-room : (bytes : List ℕ) → matrixPasses group (u .k) (matrixIn u bytes) ≡ true → MatrixFits (u .k) (matrixIn u bytes)
   unfolding matrixIn
   read-room bytes passes =
       matrix-fits (u .k) _ high (λ j l hj hl.

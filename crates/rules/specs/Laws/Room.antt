@@ -17,9 +17,12 @@ use Rattle.folds.specs.Below.{allBelow, anyBelow, countBelow, sumBelow, allBelo
 use Rattle.algebra.specs.Sums.{sum-add, sum-swap, sum-le, sum-lt, sum-at, sum-constant}
 use Rattle.rules.specs.declared.Element.{Element}
 use Rattle.rules.specs.declared.Record.{Record}
+use Rattle.rules.specs.declared.Side.{Side}
+use Rattle.rules.specs.declared.Side.the-variants.{ByEcho, ByReady}
 use Rattle.rules.specs.Numbers.{groupKeeps}
 use Rattle.rules.specs.Record.{slotAt, heardFor, held, matrixOf, sameMatrix, echoMark, readyMark, setupKeeps, marksKeep, placesKeep, useKeeps, sound}
 use Rattle.rules.specs.Steps.{ownSlot, freeSlot, slotFor}
+use Rattle.rules.specs.Laws.Facts.{ear, hears}
 use Rattle.rules.specs.Laws.Clauses.{Clauses, clauses}
 use Rattle.rules.specs.Laws.Numbers.{bounds}
 
@@ -160,15 +163,13 @@ boxes : (x : Record) (m : ℕ) → Clauses x → m < x .setup .n → m < 10
 unfolding setupKeeps
 boxes x m c l = let b = bounds (x .setup) (and-right (groupKeeps (x .setup)) _ (c .setup)) .sizes .boxes in omega arith
 
--- A sender not heard for echo finds a place for the matrix of its echo.
-pub room-echo : (x : Record) (m : ℕ) (C : List (List Element)) → sound x ≡ true → m < x .setup .n → heardFor x 2 m ≡ false → Found x C (slotFor x C)
-room-echo x m C h l e =
+-- A sender not heard for echo, or for ready, finds a place for the matrix of its message.
+pub room : (x : Record) (m : ℕ) (C : List (List Element)) → sound x ≡ true → m < x .setup .n → (b : Side) → hears x (ear b) m ≡ false
+    → Found x C (slotFor x C)
+room x m C h l ByEcho e =
     let c = clauses x h in
     found x C (free x (echoMark x) (readyMark x) 2 3 m (echoes x c) (readies x c) (in-use x c) (boxes x m c l) e)
-
--- A sender not heard for ready finds a place for the matrix of its ready.
-pub room-ready : (x : Record) (m : ℕ) (C : List (List Element)) → sound x ≡ true → m < x .setup .n → heardFor x 3 m ≡ false → Found x C (slotFor x C)
-room-ready x m C h l e =
+room x m C h l ByReady e =
     let c = clauses x h in
     found x C
     (free x (readyMark x) (echoMark x) 3 2 m (readies x c) (echoes x c)

@@ -10,11 +10,11 @@ use mathlib.Core.List.{List, [], _∷_, _++_, append-nil}
 use mathlib.Core.Path.{_≡_, refl, sym, ap, ap₂, subst, _∙_}
 use Prim.Native.Nat.{ℕ, zero, suc, _+_, _-_, _*_, _/_, _%_, _<_, _≤_}
 use native.Mathlib.Nat.{mul-le-mul-right}
-use native.Mathlib.Decide.{decLt}
+use native.Mathlib.Decide.{decLt, ℕ-discrete}
 use native.Mathlib.Omega.{arith}
 use lib.Dec.{eqb, leb, ltb}
 use lib.ListN.{length, getD, List·getD-eq-default}
-use borrow.Author.Tests.{ltb-false, leb-true, eqb-true, le-ltb, le-leb, eq-eqb, not-false}
+use borrow.Author.Tests.{ne-eqb, ltb-false, leb-true, eqb-true, le-ltb, le-leb, eq-eqb, not-false}
 use Rattle.folds.specs.Tests.{_and_, and-left, and-right, and-intro, or-false, or-none, and-rest, and-not}
 use Rattle.folds.specs.Runs.{gather, Stands, stands-at, stands-left, stands-right, stands-both, stands-piece, stands-gather, stands-reads, stands-element, stands-is, stands-apart, stands-together, every-nil, every-cons, every-append, every-gather}
 use Rattle.rules.specs.declared.Exponent.{Exponent}
@@ -25,10 +25,10 @@ use Rattle.rules.specs.declared.Polynomials.{Polynomials}
 use Rattle.rules.specs.declared.SetUp.{SetUp}
 use Rattle.rules.specs.Numbers.{exponent, element, numbersKeep}
 use Rattle.rules.specs.Matrices.{row, matrix, entry, coefficient, α, α′, β, β′}
-use Rattle.rules.specs.Messages.{Message, send, echo, ready, recovery, twoBytes, matrixBytes, coefficientBytes, polynomialBytes, fourBytes, pairBytes, tagOf, bodyOf, framed, bytesOf, wholeLength, word, tagIn, hasMatrix, malformed, foreign, matrixIn, coefficientsIn, polynomialsIn, fourIn, pairIn, messageIn}
+use Rattle.rules.specs.Messages.{Message, send, echo, ready, recovery, endPlace, twoBytes, matrixBytes, coefficientBytes, polynomialBytes, fourBytes, pairBytes, tagOf, bodyOf, framed, bytesOf, wholeLength, word, tagIn, hasMatrix, malformed, foreign, matrixIn, coefficientsIn, polynomialsIn, fourIn, pairIn, messageIn}
 use Rattle.rules.specs.Laws.Numbers.{bounds}
 use Rattle.rules.specs.Laws.Matrices.{row-same, matrix-same, entry-at, coefficient-at}
-use Rattle.rules.specs.Laws.Lengths.{length-numbers, length-matrix, length-coefficients, length-header, length-message, length-message-le}
+use Rattle.rules.specs.Laws.Lengths.{wholeLength-least, length-numbers, length-matrix, length-coefficients, length-header, length-message, length-message-le}
 
 -- ---- numbers in a run of bytes
 
@@ -157,11 +157,11 @@ pub record PairFits (s : Pair) : Type 0 where
   pub second : s .second .0 < 65536
 
 -- every number in the message is a two-byte number, and its matrix and polynomials have the form of the crate
-abbrev pub Fits : ℕ → Message → Type 0
-Fits k (send C P) = MatrixFits k C × PolynomialsFit k P
-Fits k (echo C f) = MatrixFits k C × FourFits f
-Fits k (ready C f) = MatrixFits k C × FourFits f
-Fits k (recovery s) = PairFits s
+abbrev pub Fits : SetUp → Message → Type 0
+Fits u (send C P) = MatrixFits (u .k) C × PolynomialsFit (u .k) P
+Fits u (echo C f) = MatrixFits (u .k) C × FourFits f
+Fits u (ready C f) = MatrixFits (u .k) C × FourFits f
+Fits u (recovery s) = PairFits s
 
 -- A matrix made of two-byte numbers is in range.
 pub matrix-fits : (k : ℕ) (f : ℕ → ℕ → ℕ) → k ≤ 8 → ((j l : ℕ) → j < k → l < k → f j l < 65536) → MatrixFits k (matrix k (element 0) (λ j l. element (f j l)))
@@ -181,10 +181,13 @@ polynomial-fits k f h small =
 
 -- ---- the parts of a message
 
-module _ (k : ℕ) (s : List ℕ) where
+module _ (u : SetUp) (s : List ℕ) where
+  abbrev k : ℕ
+  k = u .k
+
   -- what stands is read
 
-  matrixIn-is : (C : List (List Element)) → MatrixFits k C → Stands s 7 (matrixBytes k C) → matrixIn k s ≡ C
+  matrixIn-is : (C : List (List Element)) → MatrixFits k C → Stands s 7 (matrixBytes k C) → matrixIn u s ≡ C
   unfolding matrixIn
   matrixIn-is C c g =
       matrix-same k (element 0) (λ j l. element (word s (7 + 2 * (j * k + l)))) (λ j l. element (entry C j l))
@@ -198,7 +201,7 @@ module _ (k : ℕ) (s : List ℕ) where
       (λ l hl. ap exponent (numbers-read s p k (coefficient a) g l hl (c .small l hl)))
       ∙ sym (c .form)
 
-  polynomialsIn-is : (P : Polynomials) → PolynomialsFit k P → Stands s (7 + 2 * (k * k)) (polynomialBytes k P) → polynomialsIn k s ≡ P
+  polynomialsIn-is : (P : Polynomials) → PolynomialsFit k P → Stands s (7 + 2 * (k * k)) (polynomialBytes u P) → polynomialsIn u s ≡ P
   unfolding polynomialsIn polynomialBytes
   polynomialsIn-is P c g =
       let e : ℕ = 7 + 2 * (k * k) in
@@ -212,17 +215,17 @@ module _ (k : ℕ) (s : List ℕ) where
         b2 = coefficientsIn-is (e + 6 * k) (P .b2) (c .b2) (g₄ .3) i;
       }
 
-  fourIn-is : (f : Four) → FourFits f → Stands s (7 + 2 * (k * k)) (fourBytes f) → fourIn k s ≡ f
+  fourIn-is : (f : Four) → FourFits f → Stands s (7 + 2 * (k * k)) (fourBytes f) → fourIn u s ≡ f
   unfolding fourIn fourBytes twoBytes
   fourIn-is f c g =
-      let e : ℕ = 2 * (k * k) in
-      let g₄ = stands-apart s (7 + e) (9 + e) (11 + e) (13 + e) 2 (omega arith) (omega arith) (omega arith)
+      let e : ℕ = 7 + 2 * (k * k) in
+      let g₄ = stands-apart s e (e + 2) (e + 4) (e + 6) 2 (omega arith) (omega arith) (omega arith)
       (twoBytes (α f)) (twoBytes (α′ f)) (twoBytes (β f)) (twoBytes (β′ f)) refl refl refl g in
       λ i. record {
-        alpha = exponent (word-reads s (7 + e) (α f) (c .alpha) (g₄ .0) i);
-        alpha2 = exponent (word-reads s (9 + e) (α′ f) (c .alpha2) (g₄ .1) i);
-        beta = exponent (word-reads s (11 + e) (β f) (c .beta) (g₄ .2) i);
-        beta2 = exponent (word-reads s (13 + e) (β′ f) (c .beta2) (g₄ .3) i);
+        alpha = exponent (word-reads s e (α f) (c .alpha) (g₄ .0) i);
+        alpha2 = exponent (word-reads s (e + 2) (α′ f) (c .alpha2) (g₄ .1) i);
+        beta = exponent (word-reads s (e + 4) (β f) (c .beta) (g₄ .2) i);
+        beta2 = exponent (word-reads s (e + 6) (β′ f) (c .beta2) (g₄ .3) i);
       }
 
   pairIn-is : (x : Pair) → PairFits x → Stands s 6 (pairBytes x) → pairIn s ≡ x
@@ -238,13 +241,13 @@ module _ (k : ℕ) (s : List ℕ) where
   -- what is read is in range, and stands
 
   module _ (b : Bytes s) (h : k ≤ 8) where
-    matrixIn-fits : MatrixFits k (matrixIn k s)
+    matrixIn-fits : MatrixFits k (matrixIn u s)
     unfolding matrixIn
     matrixIn-fits = matrix-fits k (λ j l. word s (7 + 2 * (j * k + l))) h (λ j l hj hl. word-small s b _)
 
-    matrixIn-stands : 7 + 2 * (k * k) ≤ length s → Stands s 7 (matrixBytes k (matrixIn k s))
+    matrixIn-stands : 7 + 2 * (k * k) ≤ length s → Stands s 7 (matrixBytes k (matrixIn u s))
     unfolding matrixIn
-    matrixIn-stands room = matrix-stands s b 7 k (matrixIn k s) room (entry-at k (λ j l. word s (7 + 2 * (j * k + l))) h)
+    matrixIn-stands room = matrix-stands s b 7 k (matrixIn u s) room (entry-at k (λ j l. word s (7 + 2 * (j * k + l))) h)
 
     coefficientsIn-fit : (p : ℕ) → PolynomialFits k (coefficientsIn k s p)
     unfolding coefficientsIn
@@ -254,11 +257,11 @@ module _ (k : ℕ) (s : List ℕ) where
     unfolding coefficientBytes coefficientsIn
     coefficientsIn-stand p room = numbers-stand s b p k (coefficient (coefficientsIn k s p)) room (coefficient-at k (λ l. word s (p + 2 * l)) h)
 
-    polynomialsIn-fit : PolynomialsFit k (polynomialsIn k s)
+    polynomialsIn-fit : PolynomialsFit k (polynomialsIn u s)
     unfolding polynomialsIn
     polynomialsIn-fit = record { a = coefficientsIn-fit _; a2 = coefficientsIn-fit _; b = coefficientsIn-fit _; b2 = coefficientsIn-fit _ }
 
-    polynomialsIn-stand : 7 + 2 * (k * k) + 8 * k ≤ length s → Stands s (7 + 2 * (k * k)) (polynomialBytes k (polynomialsIn k s))
+    polynomialsIn-stand : 7 + 2 * (k * k) + 8 * k ≤ length s → Stands s (7 + 2 * (k * k)) (polynomialBytes u (polynomialsIn u s))
     unfolding polynomialsIn polynomialBytes
     polynomialsIn-stand room =
         let e : ℕ = 7 + 2 * (k * k) in
@@ -269,18 +272,18 @@ module _ (k : ℕ) (s : List ℕ) where
         (coefficientsIn-stand e (omega arith)) (coefficientsIn-stand (e + 2 * k) (omega arith))
         (coefficientsIn-stand (e + 4 * k) (omega arith)) (coefficientsIn-stand (e + 6 * k) (omega arith))
 
-    fourIn-fits : FourFits (fourIn k s)
+    fourIn-fits : FourFits (fourIn u s)
     unfolding fourIn
     fourIn-fits = record { alpha = word-small s b _; alpha2 = word-small s b _; beta = word-small s b _; beta2 = word-small s b _ }
 
-    fourIn-stands : 15 + 2 * (k * k) ≤ length s → Stands s (7 + 2 * (k * k)) (fourBytes (fourIn k s))
+    fourIn-stands : 15 + 2 * (k * k) ≤ length s → Stands s (7 + 2 * (k * k)) (fourBytes (fourIn u s))
     unfolding fourIn fourBytes twoBytes
     fourIn-stands room =
-        let e : ℕ = 2 * (k * k) in
-        stands-together s (7 + e) (9 + e) (11 + e) (13 + e) 2 (omega arith) (omega arith) (omega arith)
-        (twoBytes (word s (7 + e))) (twoBytes (word s (9 + e))) (twoBytes (word s (11 + e))) (twoBytes (word s (13 + e))) refl refl refl
-        (word-stands s b (7 + e) (omega arith)) (word-stands s b (9 + e) (omega arith))
-        (word-stands s b (11 + e) (omega arith)) (word-stands s b (13 + e) (omega arith))
+        let e : ℕ = 7 + 2 * (k * k) in
+        stands-together s e (e + 2) (e + 4) (e + 6) 2 (omega arith) (omega arith) (omega arith)
+        (twoBytes (word s e)) (twoBytes (word s (e + 2))) (twoBytes (word s (e + 4))) (twoBytes (word s (e + 6))) refl refl refl
+        (word-stands s b e (omega arith)) (word-stands s b (e + 2) (omega arith))
+        (word-stands s b (e + 4) (omega arith)) (word-stands s b (e + 6) (omega arith))
 
     pairIn-fits : PairFits (pairIn s)
     unfolding pairIn
@@ -293,54 +296,54 @@ module _ (k : ℕ) (s : List ℕ) where
 
 -- ---- a message by its tag
 
-module _ (k : ℕ) (s : List ℕ) where
-  pub is-send : tagIn s ≡ 1 → messageIn k s ≡ send (matrixIn k s) (polynomialsIn k s)
+module _ (u : SetUp) (s : List ℕ) where
+  pub is-send : tagIn s ≡ 1 → messageIn u s ≡ send (matrixIn u s) (polynomialsIn u s)
   unfolding messageIn
   is-send e = rw e
 
-  pub is-echo : tagIn s ≡ 2 → messageIn k s ≡ echo (matrixIn k s) (fourIn k s)
+  pub is-echo : tagIn s ≡ 2 → messageIn u s ≡ echo (matrixIn u s) (fourIn u s)
   unfolding messageIn
   is-echo e = rw e
 
-  pub is-ready : tagIn s ≡ 3 → messageIn k s ≡ ready (matrixIn k s) (fourIn k s)
+  pub is-ready : tagIn s ≡ 3 → messageIn u s ≡ ready (matrixIn u s) (fourIn u s)
   unfolding messageIn
   is-ready e = rw e
 
-  pub is-recovery : tagIn s ≡ 4 → messageIn k s ≡ recovery (pairIn s)
+  pub is-recovery : tagIn s ≡ 4 → messageIn u s ≡ recovery (pairIn s)
   unfolding messageIn
   is-recovery e = rw e
 
 -- ---- refusals 2 and 3, clause by clause
 
 -- s is not malformed
-pub record Formed (k : ℕ) (s : List ℕ) : Type 0 where
+pub record Formed (u : SetUp) (s : List ℕ) : Type 0 where
   pub long : 3 ≤ length s
   pub low : 1 ≤ tagIn s
   pub high : tagIn s ≤ 4
   pub size : word s 1 ≡ length s - 3
-  pub whole : length s ≡ wholeLength (tagIn s) k
-  pub kByte : tagIn s ≤ 3 → getD s 6 0 ≡ k
+  pub whole : length s ≡ wholeLength u (tagIn s)
+  pub kByte : tagIn s ≤ 3 → getD s 6 0 ≡ u .k
 
-pub formed : (k : ℕ) (s : List ℕ) → malformed k s ≡ false → Formed k s
+pub formed : (u : SetUp) (s : List ℕ) → malformed u s ≡ false → Formed u s
 unfolding malformed hasMatrix
-formed k s z =
+formed u s z =
     let z₁ = or-false (ltb (length s) 3) _ z in
     let z₂ = or-false (not (leb 1 (tagIn s) and leb (tagIn s) 4)) _ (z₁ .1) in
     let z₃ = or-false (not (eqb (word s 1) (length s - 3))) _ (z₂ .1) in
-    let z₄ = or-false (not (eqb (length s) (wholeLength (tagIn s) k))) _ (z₃ .1) in
+    let z₄ = or-false (not (eqb (length s) (wholeLength u (tagIn s)))) _ (z₃ .1) in
     let tag = not-false (leb 1 (tagIn s) and leb (tagIn s) 4) (z₂ .0) in
     record {
       long = ltb-false (length s) 3 (z₁ .0);
       low = leb-true 1 (tagIn s) (and-left (leb 1 (tagIn s)) (leb (tagIn s) 4) tag);
       high = leb-true (tagIn s) 4 (and-right (leb 1 (tagIn s)) (leb (tagIn s) 4) tag);
       size = eqb-true (word s 1) (length s - 3) (not-false _ (z₃ .0));
-      whole = eqb-true (length s) (wholeLength (tagIn s) k) (not-false _ (z₄ .0));
-      kByte = λ l. eqb-true (getD s 6 0) k (not-false _ (and-rest (leb (tagIn s) 3) _ (z₄ .1) (le-leb (tagIn s) 3 l)));
+      whole = eqb-true (length s) (wholeLength u (tagIn s)) (not-false _ (z₄ .0));
+      kByte = λ l. eqb-true (getD s 6 0) (u .k) (not-false _ (and-rest (leb (tagIn s) 3) _ (z₄ .1) (le-leb (tagIn s) 3 l)));
     }
 
 -- It has one of the four tags.
-pub by-tag : {A : Type 0} (k : ℕ) (s : List ℕ) → Formed k s → (tagIn s ≡ 1 → A) → (tagIn s ≡ 2 → A) → (tagIn s ≡ 3 → A) → (tagIn s ≡ 4 → A) → A
-by-tag {A} k s c one two three four = go (tagIn s) refl (c .low) (c .high)
+pub by-tag : {A : Type 0} (u : SetUp) (s : List ℕ) → Formed u s → (tagIn s ≡ 1 → A) → (tagIn s ≡ 2 → A) → (tagIn s ≡ 3 → A) → (tagIn s ≡ 4 → A) → A
+by-tag {A} u s c one two three four = go (tagIn s) refl (c .low) (c .high)
   where
     go : (t : ℕ) → tagIn s ≡ t → 1 ≤ t → t ≤ 4 → A
     go zero e l h = absurd (omega arith)
@@ -350,14 +353,41 @@ by-tag {A} k s c one two three four = go (tagIn s) refl (c .low) (c .high)
     go (suc (suc (suc (suc zero)))) e l h = four e
     go (suc (suc (suc (suc (suc t))))) e l h = absurd (omega arith)
 
-not-malformed : (k : ℕ) (s : List ℕ) → Formed k s → malformed k s ≡ false
+not-malformed : (u : SetUp) (s : List ℕ) → Formed u s → malformed u s ≡ false
 unfolding malformed hasMatrix
-not-malformed k s c =
+not-malformed u s c =
     or-none _ _ (le-ltb (length s) 3 (c .long))
     (or-none _ _ (ap not (and-intro (leb 1 (tagIn s)) (leb (tagIn s) 4) (le-leb 1 (tagIn s) (c .low)) (le-leb (tagIn s) 4 (c .high))))
     (or-none _ _ (ap not (eq-eqb (word s 1) (length s - 3) (c .size)))
-    (or-none _ _ (ap not (eq-eqb (length s) (wholeLength (tagIn s) k) (c .whole)))
-    (and-not (leb (tagIn s) 3) (eqb (getD s 6 0) k) (λ e. eq-eqb (getD s 6 0) k (c .kByte (leb-true (tagIn s) 3 e)))))))
+    (or-none _ _ (ap not (eq-eqb (length s) (wholeLength u (tagIn s)) (c .whole)))
+    (and-not (leb (tagIn s) 3) (eqb (getD s 6 0) (u .k)) (λ e. eq-eqb (getD s 6 0) (u .k) (c .kByte (leb-true (tagIn s) 3 e)))))))
+
+-- it has the six bytes of its header
+pub header : (u : SetUp) (s : List ℕ) → malformed u s ≡ false → 6 ≤ length s
+header u s z = omega (arith, formed u s z .whole, wholeLength-least u (tagIn s))
+
+-- and how many by its tag
+module _ {u : SetUp} {s : List ℕ} (r : Formed u s) where
+  pub send-long : tagIn s ≡ 1 → endPlace u + 8 * u .k ≤ length s
+  unfolding wholeLength
+  send-long e = omega (arith, r .whole ∙ ap (wholeLength u) e)
+
+  pub share-long : tagIn s ≡ 4 → 10 ≤ length s
+  unfolding wholeLength
+  share-long e = omega (arith, r .whole ∙ ap (wholeLength u) e)
+
+  pub point-long : (tagIn s ≡ 1 → ⊥) → (tagIn s ≡ 4 → ⊥) → endPlace u + 8 ≤ length s
+  unfolding wholeLength
+  point-long n₁ n₄ =
+      let exact : length s ≡ 15 + 2 * (u .k * u .k) = r .whole ∙ (rw (ne-eqb (tagIn s) 1 n₁, ne-eqb (tagIn s) 4 n₄)) in
+      omega (arith, exact)
+
+  pub matrix-long : (tagIn s ≡ 4 → ⊥) → endPlace u ≤ length s
+  matrix-long n₄ = go (ℕ-discrete (tagIn s) 1)
+    where
+      go : Dec (tagIn s ≡ 1) → endPlace u ≤ length s
+      go (yes e) = omega (arith, send-long e)
+      go (no n₁) = omega (arith, point-long n₁ n₄)
 
 -- s names the dealer and the session
 pub ours : (u : SetUp) (s : List ℕ) → foreign u s ≡ false → (getD s 3 0 ≡ u .d) × (word s 4 ≡ u .session)
@@ -373,10 +403,10 @@ not-foreign u s d e = or-none _ _ (ap not (eq-eqb (getD s 3 0) (u .d) d)) (ap no
 -- ---- a whole message
 
 -- s has the tag of m, and behind the header what m says
-record Says (k : ℕ) (s : List ℕ) (m : Message) : Type 0 where
+record Says (u : SetUp) (s : List ℕ) (m : Message) : Type 0 where
   tag : tagIn s ≡ tagOf m
-  body : Stands s 6 (bodyOf k m)
-  fits : Fits k m
+  body : Stands s 6 (bodyOf u m)
+  fits : Fits u m
 
 -- k, the matrix and the end of a message, each at its place
 module _ (k : ℕ) (s : List ℕ) (C : List (List Element)) (end : List ℕ) where
@@ -396,48 +426,49 @@ module _ (k : ℕ) (s : List ℕ) (C : List (List Element)) (end : List ℕ) whe
       (stands-both s 7 (2 * (k * k)) (matrixBytes k C) end (length-matrix k C) g g′)
 
 -- an echo and a ready say a matrix and a point
-point-is : (k : ℕ) (s : List ℕ) (C : List (List Element)) (f : Four) → MatrixFits k C × FourFits f → Stands s 6 (k ∷ matrixBytes k C ++ fourBytes f)
-    → (make : List (List Element) → Four → Message) → make (matrixIn k s) (fourIn k s) ≡ make C f
-point-is k s C f c g make =
-    ap₂ make (matrixIn-is k s C (c .0) (matrix-part k s C (fourBytes f) g)) (fourIn-is k s f (c .1) (end-part k s C (fourBytes f) g))
+point-is : (u : SetUp) (s : List ℕ) (C : List (List Element)) (f : Four) → MatrixFits (u .k) C × FourFits f
+    → Stands s 6 (u .k ∷ matrixBytes (u .k) C ++ fourBytes f)
+    → (make : List (List Element) → Four → Message) → make (matrixIn u s) (fourIn u s) ≡ make C f
+point-is u s C f c g make =
+    ap₂ make (matrixIn-is u s C (c .0) (matrix-part (u .k) s C (fourBytes f) g)) (fourIn-is u s f (c .1) (end-part (u .k) s C (fourBytes f) g))
 
-point-stands : (k : ℕ) (s : List ℕ) → Bytes s → k ≤ 8 → getD s 6 0 ≡ k → length s ≡ 15 + 2 * (k * k)
-    → Stands s 6 (k ∷ matrixBytes k (matrixIn k s) ++ fourBytes (fourIn k s))
-point-stands k s b h e n =
-    body-stands k s (matrixIn k s) (fourBytes (fourIn k s)) e (omega arith)
-    (matrixIn-stands k s b h (omega arith)) (fourIn-stands k s b h (omega arith))
+point-stands : (u : SetUp) (s : List ℕ) → Bytes s → u .k ≤ 8 → getD s 6 0 ≡ u .k → length s ≡ 15 + 2 * (u .k * u .k)
+    → Stands s 6 (u .k ∷ matrixBytes (u .k) (matrixIn u s) ++ fourBytes (fourIn u s))
+point-stands u s b h e n =
+    body-stands (u .k) s (matrixIn u s) (fourBytes (fourIn u s)) e (omega arith)
+    (matrixIn-stands u s b h (omega arith)) (fourIn-stands u s b h (omega arith))
 
 -- what s says is read
-message-read : (k : ℕ) (s : List ℕ) (m : Message) → Says k s m → messageIn k s ≡ m
+message-read : (u : SetUp) (s : List ℕ) (m : Message) → Says u s m → messageIn u s ≡ m
 unfolding messageIn tagOf bodyOf
-message-read k s (send C P) c =
+message-read u s (send C P) c =
     rw (c .tag)
-    (ap₂ send (matrixIn-is k s C (c .fits .0) (matrix-part k s C (polynomialBytes k P) (c .body)))
-    (polynomialsIn-is k s P (c .fits .1) (end-part k s C (polynomialBytes k P) (c .body))))
-message-read k s (echo C f) c = rw (c .tag) (point-is k s C f (c .fits) (c .body) echo)
-message-read k s (ready C f) c = rw (c .tag) (point-is k s C f (c .fits) (c .body) ready)
-message-read k s (recovery x) c = rw (c .tag) (ap recovery (pairIn-is k s x (c .fits) (c .body)))
+    (ap₂ send (matrixIn-is u s C (c .fits .0) (matrix-part (u .k) s C (polynomialBytes u P) (c .body)))
+    (polynomialsIn-is u s P (c .fits .1) (end-part (u .k) s C (polynomialBytes u P) (c .body))))
+message-read u s (echo C f) c = rw (c .tag) (point-is u s C f (c .fits) (c .body) echo)
+message-read u s (ready C f) c = rw (c .tag) (point-is u s C f (c .fits) (c .body) ready)
+message-read u s (recovery x) c = rw (c .tag) (ap recovery (pairIn-is u s x (c .fits) (c .body)))
 
 -- what is read is what s says
-message-says : (k : ℕ) (s : List ℕ) → Bytes s → k ≤ 8 → Formed k s → Says k s (messageIn k s)
+message-says : (u : SetUp) (s : List ℕ) → Bytes s → u .k ≤ 8 → Formed u s → Says u s (messageIn u s)
 unfolding messageIn tagOf bodyOf wholeLength
-message-says k s b h c = go (tagIn s) refl (c .low) (c .high) (c .whole)
+message-says u s b h c = go (tagIn s) refl (c .low) (c .high) (c .whole)
   where
-    go : (t : ℕ) → tagIn s ≡ t → 1 ≤ t → t ≤ 4 → length s ≡ wholeLength t k → Says k s (messageIn k s)
+    go : (t : ℕ) → tagIn s ≡ t → 1 ≤ t → t ≤ 4 → length s ≡ wholeLength u t → Says u s (messageIn u s)
     go zero e low high n = absurd (omega arith)
     go (suc zero) e low high n =
         rw e (record {
           tag = e;
-          body = body-stands k s (matrixIn k s) (polynomialBytes k (polynomialsIn k s)) (c .kByte (omega arith)) (omega arith)
-              (matrixIn-stands k s b h (omega arith)) (polynomialsIn-stand k s b h (omega arith));
-          fits = (matrixIn-fits k s b h, polynomialsIn-fit k s b h);
+          body = body-stands (u .k) s (matrixIn u s) (polynomialBytes u (polynomialsIn u s)) (c .kByte (omega arith)) (omega arith)
+              (matrixIn-stands u s b h (omega arith)) (polynomialsIn-stand u s b h (omega arith));
+          fits = (matrixIn-fits u s b h, polynomialsIn-fit u s b h);
         })
     go (suc (suc zero)) e low high n =
-        rw e (record { tag = e; body = point-stands k s b h (c .kByte (omega arith)) n; fits = (matrixIn-fits k s b h, fourIn-fits k s b h) })
+        rw e (record { tag = e; body = point-stands u s b h (c .kByte (omega arith)) n; fits = (matrixIn-fits u s b h, fourIn-fits u s b h) })
     go (suc (suc (suc zero))) e low high n =
-        rw e (record { tag = e; body = point-stands k s b h (c .kByte (omega arith)) n; fits = (matrixIn-fits k s b h, fourIn-fits k s b h) })
+        rw e (record { tag = e; body = point-stands u s b h (c .kByte (omega arith)) n; fits = (matrixIn-fits u s b h, fourIn-fits u s b h) })
     go (suc (suc (suc (suc zero)))) e low high n =
-        rw e (record { tag = e; body = pairIn-stands k s b h (omega arith); fits = pairIn-fits k s b h })
+        rw e (record { tag = e; body = pairIn-stands u s b h (omega arith); fits = pairIn-fits u s b h })
     go (suc (suc (suc (suc (suc t))))) e low high n = absurd (omega arith)
 
 -- ---- the round trip, there
@@ -465,10 +496,10 @@ unfolding bytesOf framed twoBytes word
 session-bytes u m h = omega arith
 
 -- No message that is written is malformed.
-pub message-formed : (u : SetUp) (m : Message) → SetUpFits u → malformed (u .k) (bytesOf u m) ≡ false
+pub message-formed : (u : SetUp) (m : Message) → SetUpFits u → malformed u (bytesOf u m) ≡ false
 unfolding bytesOf framed
 message-formed u m c =
-    not-malformed (u .k) (bytesOf u m)
+    not-malformed u (bytesOf u m)
     (record {
       long = omega (arith, length-header u m);
       low = tag-bounds m .0;
@@ -484,10 +515,10 @@ unfolding bytesOf framed twoBytes
 message-ours u m c = not-foreign u (bytesOf u m) refl (session-bytes u m (c .session))
 
 -- A message in range is read as it was written.
-pub message-there : (u : SetUp) (m : Message) → Fits (u .k) m → messageIn (u .k) (bytesOf u m) ≡ m
+pub message-there : (u : SetUp) (m : Message) → Fits u m → messageIn u (bytesOf u m) ≡ m
 unfolding bytesOf framed twoBytes
 message-there u m c =
-    message-read (u .k) (bytesOf u m) m (record { tag = refl; body = ([], sym (append-nil (bodyOf (u .k) m))); fits = c })
+    message-read u (bytesOf u m) m (record { tag = refl; body = ([], sym (append-nil (bodyOf u m))); fits = c })
 
 bytes-four : (a b c d : List ℕ) → Bytes a → Bytes b → Bytes c → Bytes d → Bytes (a ++ b ++ c ++ d)
 bytes-four a b c d ha hb hc hd =
@@ -511,15 +542,15 @@ bytes-behind k h C end g =
     (every-gather Byte 0 (λ j. gather k (λ l. twoBytes (entry C j l))) (λ j. bytes-numbers (entry C j) k) k))
     g
 
-bytes-body : (k : ℕ) → k ≤ 8 → (m : Message) → Bytes (bodyOf k m)
+bytes-body : (u : SetUp) → u .k ≤ 8 → (m : Message) → Bytes (bodyOf u m)
 unfolding bodyOf polynomialBytes pairBytes
-bytes-body k h (send C P) =
-    bytes-behind k h C (polynomialBytes k P)
-    (bytes-four (coefficientBytes k (P .a)) (coefficientBytes k (P .a2)) (coefficientBytes k (P .b)) (coefficientBytes k (P .b2))
-    (bytes-coefficients k (P .a)) (bytes-coefficients k (P .a2)) (bytes-coefficients k (P .b)) (bytes-coefficients k (P .b2)))
-bytes-body k h (echo C f) = bytes-behind k h C (fourBytes f) (bytes-point f)
-bytes-body k h (ready C f) = bytes-behind k h C (fourBytes f) (bytes-point f)
-bytes-body k h (recovery s) =
+bytes-body u h (send C P) =
+    bytes-behind (u .k) h C (polynomialBytes u P)
+    (bytes-four (coefficientBytes (u .k) (P .a)) (coefficientBytes (u .k) (P .a2)) (coefficientBytes (u .k) (P .b)) (coefficientBytes (u .k) (P .b2))
+    (bytes-coefficients (u .k) (P .a)) (bytes-coefficients (u .k) (P .a2)) (bytes-coefficients (u .k) (P .b)) (bytes-coefficients (u .k) (P .b2)))
+bytes-body u h (echo C f) = bytes-behind (u .k) h C (fourBytes f) (bytes-point f)
+bytes-body u h (ready C f) = bytes-behind (u .k) h C (fourBytes f) (bytes-point f)
+bytes-body u h (recovery s) =
     every-append Byte 0 (twoBytes (s .first .0)) (twoBytes (s .second .0)) (bytes-two (s .first .0)) (bytes-two (s .second .0))
 
 -- the matrix of a message
@@ -530,7 +561,7 @@ matrixPart (ready C f) = C
 matrixPart (recovery s) = []
 
 -- Its matrix is read as it was written.
-pub matrix-there : (u : SetUp) (m : Message) → tagOf m ≤ 3 → Fits (u .k) m → matrixIn (u .k) (bytesOf u m) ≡ matrixPart m
+pub matrix-there : (u : SetUp) (m : Message) → tagOf m ≤ 3 → Fits u m → matrixIn u (bytesOf u m) ≡ matrixPart m
 unfolding messageIn bytesOf framed tagOf
 matrix-there u (send C P) l c = ap matrixPart (message-there u (send C P) c)
 matrix-there u (echo C f) l c = ap matrixPart (message-there u (echo C f) c)
@@ -541,34 +572,34 @@ matrix-there u (recovery s) l c = absurd (omega arith)
 pub message-bytes : (u : SetUp) (m : Message) → SetUpFits u → Bytes (bytesOf u m)
 unfolding bytesOf framed
 message-bytes u m c =
-    let rest : List ℕ = u .d ∷ twoBytes (u .session) ++ bodyOf (u .k) m in
+    let rest : List ℕ = u .d ∷ twoBytes (u .session) ++ bodyOf u m in
     every-append Byte 0 (tagOf m ∷ twoBytes (length rest)) rest
     (every-cons Byte 0 (tagOf m) (twoBytes (length rest)) (omega (arith, tag-bounds m)) (bytes-two (length rest)))
-    (every-append Byte 0 (u .d ∷ twoBytes (u .session)) (bodyOf (u .k) m)
-    (every-cons Byte 0 (u .d) (twoBytes (u .session)) (c .d) (bytes-two (u .session))) (bytes-body (u .k) (c .k) m))
+    (every-append Byte 0 (u .d ∷ twoBytes (u .session)) (bodyOf u m)
+    (every-cons Byte 0 (u .d) (twoBytes (u .session)) (c .d) (bytes-two (u .session))) (bytes-body u (c .k) m))
 
 -- ---- and back
 
 -- header and body together are the whole
-whole-stands : (u : SetUp) (s : List ℕ) (m : Message) → Bytes s → length s ≡ 6 + length (bodyOf (u .k) m) → tagIn s ≡ tagOf m → word s 1 ≡ length s - 3
-    → (getD s 3 0 ≡ u .d) × (word s 4 ≡ u .session) → Stands s 6 (bodyOf (u .k) m) → Stands s 0 (bytesOf u m)
+whole-stands : (u : SetUp) (s : List ℕ) (m : Message) → Bytes s → length s ≡ 6 + length (bodyOf u m) → tagIn s ≡ tagOf m → word s 1 ≡ length s - 3
+    → (getD s 3 0 ≡ u .d) × (word s 4 ≡ u .session) → Stands s 6 (bodyOf u m) → Stands s 0 (bytesOf u m)
 unfolding bytesOf framed twoBytes
 whole-stands u s m b n tag size head body =
-    let rest : List ℕ = u .d ∷ twoBytes (u .session) ++ bodyOf (u .k) m in
+    let rest : List ℕ = u .d ∷ twoBytes (u .session) ++ bodyOf u m in
     stands-both s 0 3 (tagOf m ∷ twoBytes (length rest)) rest refl
     (byte-word-stand s b 0 (tagOf m) (length rest) (omega arith) tag (omega arith))
-    (stands-both s 3 3 (u .d ∷ twoBytes (u .session)) (bodyOf (u .k) m) refl
+    (stands-both s 3 3 (u .d ∷ twoBytes (u .session)) (bodyOf u m) refl
     (byte-word-stand s b 3 (u .d) (u .session) (omega arith) (head .0) (head .1)) body)
 
 -- Whatever is read is in range.
-pub message-fits : (k : ℕ) (s : List ℕ) → Bytes s → k ≤ 8 → malformed k s ≡ false → Fits k (messageIn k s)
-message-fits k s b h z = message-says k s b h (formed k s z) .fits
+pub message-fits : (u : SetUp) (s : List ℕ) → Bytes s → u .k ≤ 8 → malformed u s ≡ false → Fits u (messageIn u s)
+message-fits u s b h z = message-says u s b h (formed u s z) .fits
 
 -- Whatever is read is written as the same bytes.
-pub message-back : (u : SetUp) (s : List ℕ) → Bytes s → u .k ≤ 8 → malformed (u .k) s ≡ false → foreign u s ≡ false → bytesOf u (messageIn (u .k) s) ≡ s
+pub message-back : (u : SetUp) (s : List ℕ) → Bytes s → u .k ≤ 8 → malformed u s ≡ false → foreign u s ≡ false → bytesOf u (messageIn u s) ≡ s
 message-back u s b h z y =
-    let m = messageIn (u .k) s in
-    let c = formed (u .k) s z in
-    let w = message-says (u .k) s b h c in
-    let n : length (bytesOf u m) ≡ length s = length-message u m ∙ ap (λ (t : ℕ). wholeLength t (u .k)) (sym (w .tag)) ∙ sym (c .whole) in
+    let m = messageIn u s in
+    let c = formed u s z in
+    let w = message-says u s b h c in
+    let n : length (bytesOf u m) ≡ length s = length-message u m ∙ ap (λ (t : ℕ). wholeLength u t) (sym (w .tag)) ∙ sym (c .whole) in
     stands-is s (bytesOf u m) n (whole-stands u s m b (sym n ∙ length-header u m) (w .tag) (c .size) (ours u s y) (w .body))

@@ -20,8 +20,11 @@ use Rattle.rules.specs.declared.Record.{Record}
 use Rattle.rules.specs.Numbers.{groupKeeps}
 use Rattle.rules.specs.Matrices.{entry}
 use Rattle.rules.specs.Record.{groupIn, slotAt, heardFor, placeAt, shareAt, matrixOf, isThere, isDone, held, sharesKept, sameMatrix, setupKeeps, pointBelow, keptBelow, slotBelow, exponentsBelow, matricesDiffer, matricesPass, echoMark, readyMark, marksKeep, placesKeep, useKeeps, pairKeeps, completionKeeps, recoveryKeeps, dealtKeeps, entriesZero, senderZero, unusedZero, sound}
+use Rattle.rules.specs.Laws.Numbers.{Ranges, ranges}
 use Rattle.rules.specs.Laws.Clauses.{Clauses, clauses, is-sound}
-use Rattle.rules.specs.Laws.Facts.{Side, byEcho, byReady, markAt, ear, hears, Contents, SlotFacts, unmarked, DoneWith, Facts}
+use Rattle.rules.specs.declared.Side.{Side}
+use Rattle.rules.specs.declared.Side.the-variants.{ByEcho, ByReady}
+use Rattle.rules.specs.Laws.Facts.{markAt, ear, hears, Contents, SlotFacts, unmarked, DoneWith, Facts}
 
 -- ---- matrices that agree
 
@@ -130,8 +133,8 @@ module _ (x : Record) (c : Clauses x) where
 
   side-clause : (b : Side) → markClause (markAt b x) (hears x (ear b)) ≡ true
   unfolding marksKeep
-  side-clause byEcho = and-left _ _ (c .marks)
-  side-clause byReady = and-right (markClause (echoMark x) (hears x 1)) _ (c .marks)
+  side-clause ByEcho = and-left _ _ (c .marks)
+  side-clause ByReady = and-right (markClause (echoMark x) (hears x 1)) _ (c .marks)
 
   done-with : (d : Completion) → completionKeeps x d ≡ true → (s : ℕ) → d ≡ With s → DoneWith (x .setup) s (slotAt x s)
   done-with NotYet h s e = let z : _≡_ {A = ℕ} 0 1 = cc in absurd (omega arith)
@@ -150,25 +153,35 @@ module _ (x : Record) (c : Clauses x) where
       record {
         group = and-left _ _ (c .setup);
         numbers = and-right (groupKeeps (x .setup)) _ (c .setup);
-        slots = slot-at;
-        differ = differ-at;
-        once = λ b. marks-once (markAt b x) (hears x (ear b)) (side-clause b);
-        heard = λ b. marks-heard (markAt b x) (hears x (ear b)) (side-clause b);
-        completion = done-with (x .progress .completion) (c .completion);
-        shares = λ m l. allBelow-at _ 10 m (and-left _ _ shares-below) l;
-        recovered = and-right (allBelow 10 (λ m. keptBelow (groupIn x .q) (shareAt (x .shares) m))) _ shares-below;
-        commanded = implies-at _ _ (and-left _ _ (c .recovery));
-        shared = λ m l. implies-at (isThere (shareAt (x .shares) m)) _ (allBelow-at _ 10 m (and-left _ _ r1) l);
-        atMost = leb-true _ _ (and-left _ _ r2);
-        senders = λ m l. same-eq (heardFor x 4 m) _ (allBelow-at _ 10 m (and-left _ _ r3) l);
-        exactly = same-eq _ _ (and-right (allBelow 10 (λ m. same (heardFor x 4 m) (isThere (shareAt (x .shares) m)))) _ r3);
-        dealt = implies-at _ _ (c .dealt);
+        slots = record {
+          each = slot-at;
+          differ = differ-at;
+          once = λ b. marks-once (markAt b x) (hears x (ear b)) (side-clause b);
+          heard = λ b. marks-heard (markAt b x) (hears x (ear b)) (side-clause b);
+        };
+        progress = record {
+          completion = done-with (x .progress .completion) (c .completion);
+          commanded = implies-at _ _ (and-left _ _ (c .recovery));
+          dealt = implies-at _ _ (c .dealt);
+        };
+        shares = record {
+          below = λ m l. allBelow-at _ 10 m (and-left _ _ shares-below) l;
+          recovered-below = and-right (allBelow 10 (λ m. keptBelow (groupIn x .q) (shareAt (x .shares) m))) _ shares-below;
+          shared = λ m l. implies-at (isThere (shareAt (x .shares) m)) _ (allBelow-at _ 10 m (and-left _ _ r1) l);
+          atMost = leb-true _ _ (and-left _ _ r2);
+          senders = λ m l. same-eq (heardFor x 4 m) _ (allBelow-at _ 10 m (and-left _ _ r3) l);
+          exactly = same-eq _ _ (and-right (allBelow 10 (λ m. same (heardFor x 4 m) (isThere (shareAt (x .shares) m)))) _ r3);
+        };
         none = heard-none;
       }
 
 -- A sound record has the facts.
 pub sound-facts : (x : Record) → sound x ≡ true → Facts x
 sound-facts x h = facts-of x (clauses x h)
+
+-- Its set-up numbers are small.
+pub sound-ranges : (x : Record) → sound x ≡ true → Ranges (x .setup)
+sound-ranges x h = let c = sound-facts x h in ranges (x .setup) (c .group) (c .numbers)
 
 -- ---- and back
 
@@ -177,38 +190,38 @@ module _ (x : Record) (c : Facts x) where
   unfolding exponentsBelow slotBelow
   exponents-below =
       and-intro _ _
-      (allBelow-all _ 20 (λ s l. and-intro _ _ (allBelow-all _ 10 (c .slots s l .contents .points)) (c .slots s l .contents .pair)))
-      (and-intro _ _ (allBelow-all _ 10 (c .shares)) (c .recovered))
+      (allBelow-all _ 20 (λ s l. and-intro _ _ (allBelow-all _ 10 (c .slots .each s l .contents .points)) (c .slots .each s l .contents .pair)))
+      (and-intro _ _ (allBelow-all _ 10 (c .shares .below)) (c .shares .recovered-below))
 
   matrices-differ : matricesDiffer x ≡ true
   unfolding matricesDiffer
   matrices-differ =
       allBelow-all _ 20 (λ s l. allBelow-all _ s (λ r g. ap not (false-unless _ (λ e.
       let e1 = and-right (slotAt x s .used) _ e in
-      true≢false (sym (and-right (slotAt x r .used) _ e1) ∙ c .differ s r l (omega arith) (λ q. let w : ⊥ = omega arith in w) (and-left _ _ e) (and-left _ _ e1))))))
+      true≢false (sym (and-right (slotAt x r .used) _ e1) ∙ c .slots .differ s r l (omega arith) (λ q. let w : ⊥ = omega arith in w) (and-left _ _ e) (and-left _ _ e1))))))
 
   matrices-pass : matricesPass x ≡ true
   unfolding matricesPass
-  matrices-pass = allBelow-all _ 20 (λ s l. implies-intro (slotAt x s .used) _ (c .slots s l .contents .passes))
+  matrices-pass = allBelow-all _ 20 (λ s l. implies-intro (slotAt x s .used) _ (c .slots .each s l .contents .passes))
 
   marks-keep : marksKeep x ≡ true
   unfolding marksKeep
-  marks-keep = and-intro _ _ (at byEcho) (at byReady)
+  marks-keep = and-intro _ _ (at ByEcho) (at ByReady)
     where
       at : (b : Side) → markClause (markAt b x) (hears x (ear b)) ≡ true
-      at b = marks-clause (markAt b x) (hears x (ear b)) (c .once b) (c .heard b)
+      at b = marks-clause (markAt b x) (hears x (ear b)) (c .slots .once b) (c .slots .heard b)
 
   places-keep : allBelow 20 (λ s. placesKeep (slotAt x s)) ≡ true
   unfolding placesKeep
-  places-keep = allBelow-all _ 20 (λ s l. allBelow-all _ 10 (λ m g. eq-same (held (slotAt x s) m) _ (c .slots s l .contents .places m g)))
+  places-keep = allBelow-all _ 20 (λ s l. allBelow-all _ 10 (λ m g. eq-same (held (slotAt x s) m) _ (c .slots .each s l .contents .places m g)))
 
   uses-keep : allBelow 20 (λ s. useKeeps (slotAt x s)) ≡ true
   unfolding useKeeps
-  uses-keep = allBelow-all _ 20 (λ s l. eq-same (slotAt x s .used) _ (c .slots s l .inUse))
+  uses-keep = allBelow-all _ 20 (λ s l. eq-same (slotAt x s .used) _ (c .slots .each s l .inUse))
 
   pairs-keep : allBelow 20 (λ s. pairKeeps (x .setup) (slotAt x s)) ≡ true
   unfolding pairKeeps
-  pairs-keep = allBelow-all _ 20 (λ s l. eq-same (isThere (slotAt x s .pair .kept)) _ (c .slots s l .right))
+  pairs-keep = allBelow-all _ 20 (λ s l. eq-same (isThere (slotAt x s .pair .kept)) _ (c .slots .each s l .right))
 
   completion-keeps : (d : Completion) → ((s : ℕ) → d ≡ With s → DoneWith (x .setup) s (slotAt x s)) → completionKeeps x d ≡ true
   completion-keeps NotYet h = refl
@@ -217,29 +230,29 @@ module _ (x : Record) (c : Facts x) where
   recovery-keeps : recoveryKeeps x ≡ true
   unfolding recoveryKeeps
   recovery-keeps =
-      and-intro _ _ (implies-intro _ _ (c .commanded))
-      (and-intro _ _ (allBelow-all _ 10 (λ m l. implies-intro (isThere (shareAt (x .shares) m)) _ (c .shared m l)))
-      (and-intro _ _ (le-leb _ _ (c .atMost))
-      (and-intro _ _ (allBelow-all _ 10 (λ m l. eq-same (heardFor x 4 m) _ (c .senders m l)))
-      (eq-same _ _ (c .exactly)))))
+      and-intro _ _ (implies-intro _ _ (c .progress .commanded))
+      (and-intro _ _ (allBelow-all _ 10 (λ m l. implies-intro (isThere (shareAt (x .shares) m)) _ (c .shares .shared m l)))
+      (and-intro _ _ (le-leb _ _ (c .shares .atMost))
+      (and-intro _ _ (allBelow-all _ 10 (λ m l. eq-same (heardFor x 4 m) _ (c .shares .senders m l)))
+      (eq-same _ _ (c .shares .exactly)))))
 
   sender-none : (m : ℕ) → m < 10 → x .setup .n ≤ m → senderZero x m ≡ true
   unfolding senderZero
   sender-none m l g =
       and-intro _ _
       (allBelow-all _ 20 (λ s h.
-      let f = c .slots s h .contents in
+      let f = c .slots .each s h .contents in
       let e = f .above m l g in
-      and-intro _ _ (ap not e) (and-intro _ _ (ap not (unmarked (x .setup) (slotAt x s) f byEcho m l e)) (ap not (unmarked (x .setup) (slotAt x s) f byReady m l e)))))
+      and-intro _ _ (ap not e) (and-intro _ _ (ap not (unmarked (x .setup) (slotAt x s) f ByEcho m l e)) (ap not (unmarked (x .setup) (slotAt x s) f ByReady m l e)))))
       (and-intro _ _
       (allBelow-all _ 4 (λ t h. let e : t + 1 - 1 ≡ t = omega arith in ap not (ap (λ (i : ℕ). hears x i m) e ∙ c .none m t l g h)))
-      (ap not (sym (c .senders m l) ∙ c .none m 3 l g (omega arith))))
+      (ap not (sym (c .shares .senders m l) ∙ c .none m 3 l g (omega arith))))
 
   unused-zero : unusedZero x ≡ true
   unfolding unusedZero
   unused-zero =
       and-intro _ _
-      (allBelow-all _ 20 (λ s l. c .slots s l .contents .zero))
+      (allBelow-all _ 20 (λ s l. c .slots .each s l .contents .zero))
       (allBelow-all _ 10 (λ m l.
       ⊎-elim
       (or-left (ltb m (x .setup .n)) (senderZero x m))
@@ -258,9 +271,9 @@ module _ (x : Record) (c : Facts x) where
         places = places-keep;
         use′ = uses-keep;
         pairs = pairs-keep;
-        completion = completion-keeps (x .progress .completion) (c .completion);
+        completion = completion-keeps (x .progress .completion) (c .progress .completion);
         recovery = recovery-keeps;
-        dealt = implies-intro _ _ (c .dealt);
+        dealt = implies-intro _ _ (c .progress .dealt);
         zero = unused-zero;
       }
 

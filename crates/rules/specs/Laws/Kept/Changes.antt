@@ -25,7 +25,9 @@ use Rattle.rules.specs.Dealing.{pairBelow}
 use Rattle.rules.specs.Record.{nothing, noMarks, noSlot, groupIn, slotAt, marked, shareAt, matrixOf, isThere, isDone, held, countR, sharesKept, sameMatrix, keptBelow, entriesZero}
 use Rattle.rules.specs.Steps.{withProgress, withSlot, withShares, mark, heard, keeping, firstCompletion, completing, sharing}
 use Rattle.rules.specs.Laws.Shape.{ShapedSlot, Shaped}
-use Rattle.rules.specs.Laws.Facts.{Side, byEcho, byReady, marksOf, markAt, ear, hears, Contents, PairRight, SlotFacts, DoneWith, Facts, needed}
+use Rattle.rules.specs.declared.Side.{Side}
+use Rattle.rules.specs.declared.Side.the-variants.{ByEcho, ByReady}
+use Rattle.rules.specs.Laws.Facts.{marksOf, markAt, ear, hears, Contents, PairRight, SlotFacts, DoneWith, SlotsFacts, Facts, needed}
 use Rattle.rules.specs.Laws.Sound.{agree-comm}
 use Rattle.rules.specs.Laws.Kept.TakenSlot.{mark-stays}
 
@@ -47,18 +49,15 @@ progress-good x v g done commanded stays dealt =
         group = c .group;
         numbers = c .numbers;
         slots = c .slots;
-        differ = c .differ;
-        once = c .once;
-        heard = c .heard;
-        completion = done;
-        shares = c .shares;
-        recovered = c .recovered;
-        commanded = commanded;
-        shared = λ m l e. stays (c .shared m l e);
-        atMost = c .atMost;
-        senders = c .senders;
-        exactly = c .exactly;
-        dealt = dealt;
+        progress = record { completion = done; commanded = commanded; dealt = dealt };
+        shares = record {
+          below = c .shares .below;
+          recovered-below = c .shares .recovered-below;
+          shared = λ m l e. stays (c .shares .shared m l e);
+          atMost = c .shares .atMost;
+          senders = c .shares .senders;
+          exactly = c .shares .exactly;
+        };
         none = c .none;
       };
       shape = record { slots = g .shape .slots; slot = g .shape .slot; heard = g .shape .heard; marks = g .shape .marks; shares = g .shape .shares };
@@ -111,6 +110,22 @@ module _ (x : Record) (shape : Shaped x) (tag m : ℕ) (lt : tag - 1 < 4) (lm : 
             (λ r n l. shape .marks r l);
       }
 
+-- One more sender heard changes nothing of the slots, and above n there is none.
+heard-slots : (x : Record) (tag m : ℕ) → SlotsFacts (x .setup) (x .slots) (x .heard) → SlotsFacts (x .setup) (x .slots) (heard x tag m .heard)
+unfolding heard
+heard-slots x tag m c =
+    record {
+      each = c .each;
+      differ = c .differ;
+      once = c .once;
+      heard = λ b i s a l e. hears-stays x tag m (ear b) i (c .heard b i s a l e);
+    }
+
+heard-none : (x : Record) (g : Good x) (tag m : ℕ) → tag - 1 < 4 → m < x .setup .n → (i a : ℕ) → i < 10 → x .setup .n ≤ i → a < 4 → hears (heard x tag m) a i ≡ false
+heard-none x g tag m lt lm i a l n h =
+    let boxes = needed x (g .facts) .boxes in
+    hears-other x (g .shape) tag m lt (omega arith) a i (λ p q. let w : ⊥ = omega arith in w) ∙ g .facts .none i a l n h
+
 -- A box may be heard for a send, an echo or a ready.
 pub heard-good : (x : Record) (tag m : ℕ) → Good x → tag - 1 < 3 → m < x .setup .n → Good (heard x tag m)
 unfolding heard
@@ -123,20 +138,17 @@ heard-good x tag m g lt lm =
       facts = record {
         group = c .group;
         numbers = c .numbers;
-        slots = c .slots;
-        differ = c .differ;
-        once = c .once;
-        heard = λ b i s a l e. hears-stays x tag m (ear b) i (c .heard b i s a l e);
-        completion = c .completion;
-        shares = c .shares;
-        recovered = c .recovered;
-        commanded = c .commanded;
-        shared = c .shared;
-        atMost = c .atMost;
-        senders = λ i l. hears-other x (g .shape) tag m lt4 lm10 3 i (λ p q. let w : ⊥ = omega arith in w) ∙ c .senders i l;
-        exactly = c .exactly;
-        dealt = c .dealt;
-        none = λ i a l n h. hears-other x (g .shape) tag m lt4 lm10 a i (λ p q. let w : ⊥ = omega arith in w) ∙ c .none i a l n h;
+        slots = heard-slots x tag m (c .slots);
+        progress = c .progress;
+        shares = record {
+          below = c .shares .below;
+          recovered-below = c .shares .recovered-below;
+          shared = c .shares .shared;
+          atMost = c .shares .atMost;
+          senders = λ i l. hears-other x (g .shape) tag m lt4 lm10 3 i (λ p q. let w : ⊥ = omega arith in w) ∙ c .shares .senders i l;
+          exactly = c .shares .exactly;
+        };
+        none = heard-none x g tag m lt4 lm;
       };
       shape = heard-shape x (g .shape) tag m lt4 lm10;
     }
@@ -175,8 +187,8 @@ keeping-replaces x s slot p below c =
     }
   where
     same : (b : Side) → marksOf b (keeping slot p) ≡ marksOf b slot
-    same byEcho = refl
-    same byReady = refl
+    same ByEcho = refl
+    same ByReady = refl
 
 module _ (x : Record) (g : Good x) (s : ℕ) (slot : Slot) (l : s < 20) (c : Replaces x s slot) where
   -- what holds of the slot there and of each other one holds of each
@@ -190,7 +202,7 @@ module _ (x : Record) (g : Good x) (s : ℕ) (slot : Slot) (l : s < 20) (c : Rep
       (each (Differ s slot) (λ h i n. absurd (n refl)) (λ r n h i d e f. c .differ r i n e f) b)
       (λ r n. each (Differ r (slotAt x r))
       (λ h i d e f. agree-comm (x .setup .k) (matrixOf (slotAt x r)) (matrixOf slot) ∙ c .differ r h n f e)
-      (λ q d. g .facts .differ r q)
+      (λ q d. g .facts .slots .differ r q)
       b)
       a
     where
@@ -201,7 +213,7 @@ module _ (x : Record) (g : Good x) (s : ℕ) (slot : Slot) (l : s < 20) (c : Rep
   once-still b m a d lm =
       each (λ (a : ℕ) (v : Slot). Once a v d (slotAt (withSlot x s slot) d))
       (each (Once s slot) (λ h i e f. refl) (λ r n h i e f. absurd (c .once b m r lm i n e f)) d)
-      (λ r n. each (Once r (slotAt x r)) (λ h i e f. absurd (c .once b m r lm h n f e)) (λ q n. g .facts .once b m r q lm) d)
+      (λ r n. each (Once r (slotAt x r)) (λ h i e f. absurd (c .once b m r lm h n f e)) (λ q n. g .facts .slots .once b m r q lm) d)
       a
     where
       Once : ℕ → Slot → ℕ → Slot → Type 0
@@ -211,7 +223,7 @@ module _ (x : Record) (g : Good x) (s : ℕ) (slot : Slot) (l : s < 20) (c : Rep
   heard-still b m a lm =
       each (λ (a : ℕ) (v : Slot). a < 20 → marked (marksOf b v) m ≡ true → hears x (ear b) m ≡ true)
       (λ h e. c .heard b m lm e)
-      (λ r n. g .facts .heard b m r lm)
+      (λ r n. g .facts .slots .heard b m r lm)
       a
 
   done-still : (a : ℕ) → x .progress .completion ≡ With a → DoneWith (x .setup) a (slotAt (withSlot x s slot) a)
@@ -219,7 +231,7 @@ module _ (x : Record) (g : Good x) (s : ℕ) (slot : Slot) (l : s < 20) (c : Rep
       each (λ (a : ℕ) (v : Slot). DoneWith (x .setup) a (slotAt x a) → DoneWith (x .setup) a v)
       (λ h. let w = c .grows (h .used) in let more = w .1 in let enough = h .readies in record { within = h .within; used = w .0; readies = omega arith })
       (λ r n h. h)
-      a (g .facts .completion a e)
+      a (g .facts .progress .completion a e)
 
   -- A slot that may stand in place s, with the right pair, may replace the one there.
   pub replaced-good : PairRight (x .setup) slot → Good (withSlot x s slot)
@@ -229,19 +241,14 @@ module _ (x : Record) (g : Good x) (s : ℕ) (slot : Slot) (l : s < 20) (c : Rep
         facts = record {
           group = f .group;
           numbers = f .numbers;
-          slots = each (λ (a : ℕ) (v : Slot). a < 20 → SlotFacts (x .setup) v) (λ h. record { contents = c .contents; inUse = c .inUse; right = right }) (λ r n. f .slots r);
-          differ = differ-still;
-          once = once-still;
-          heard = heard-still;
-          completion = done-still;
+          slots = record {
+            each = each (λ (a : ℕ) (v : Slot). a < 20 → SlotFacts (x .setup) v) (λ h. record { contents = c .contents; inUse = c .inUse; right = right }) (λ r n. f .slots .each r);
+            differ = differ-still;
+            once = once-still;
+            heard = heard-still;
+          };
+          progress = record { completion = done-still; commanded = f .progress .commanded; dealt = f .progress .dealt };
           shares = f .shares;
-          recovered = f .recovered;
-          commanded = f .commanded;
-          shared = f .shared;
-          atMost = f .atMost;
-          senders = f .senders;
-          exactly = f .exactly;
-          dealt = f .dealt;
           none = f .none;
         };
         shape = record {
@@ -269,10 +276,10 @@ pub completing-good : (x : Record) (s : ℕ) → Good x → DoneWith (x .setup) 
 unfolding completing
 completing-good x s g c =
     progress-good x _ g
-    (first-with x (x .progress .completion) s c (g .facts .completion))
+    (first-with x (x .progress .completion) s c (g .facts .progress .completion))
     (λ e. first-done (x .progress .completion) s)
     (λ e. e)
-    (g .facts .dealt)
+    (g .facts .progress .dealt)
 
 -- ---- a recovery share kept
 
@@ -288,14 +295,14 @@ module _ (x : Record) (g : Good x) (m : ℕ) (l : m < x .setup .n) (s : Pair) (n
   unfolding sharesKept
   share-more =
       countBelow-up (λ i. isThere (shareAt (x .shares) i)) (λ i. isThere (shareAt (sharing x m s) i)) m 10 low
-      (sym (g .facts .senders m low) ∙ new)
+      (sym (g .facts .shares .senders m low) ∙ new)
       (ap (λ (v : Keep). isThere (v .kept)) (getD-set-same (x .shares) m _ nothing place))
       (λ i n. ap (λ (v : Keep). isThere (v .kept)) (getD-set-other (x .shares) m i _ nothing n))
 
   few : sharesKept (x .shares) < x .setup .k
   few =
-      let d : sharesKept (x .shares) ≡ x .setup .k → ⊥ = eqb-false _ _ (sym (g .facts .exactly) ∙ unrecovered) in
-      let e = g .facts .atMost in
+      let d : sharesKept (x .shares) ≡ x .setup .k → ⊥ = eqb-false _ _ (sym (g .facts .shares .exactly) ∙ unrecovered) in
+      let e = g .facts .shares .atMost in
       omega arith
 
   -- After a command a new box's share may be kept, with the recovered pair there exactly at the k-th.
@@ -309,22 +316,19 @@ module _ (x : Record) (g : Good x) (m : ℕ) (l : m < x .setup .n) (s : Pair) (n
         facts = record {
           group = f .group;
           numbers = f .numbers;
-          slots = f .slots;
-          differ = f .differ;
-          once = f .once;
-          heard = λ b i a h k e. hears-stays x 4 m (ear b) i (f .heard b i a h k e);
-          completion = f .completion;
-          shares = set-each (λ (i : ℕ) (v : Keep). i < 10 → keptBelow (groupIn x .q) (v .kept) ≡ true) (x .shares) m _ nothing place (λ h. below) (λ r n. f .shares r);
-          recovered = wb;
-          commanded = f .commanded;
-          shared = λ i h e. commanded;
-          atMost = let a = share-more in let b = few in omega arith;
-          senders = set-each (λ (i : ℕ) (v : Keep). i < 10 → hears (heard x 4 m) 3 i ≡ isThere (v .kept)) (x .shares) m _ nothing place
-              (λ h. hears-own x (g .shape) 4 m lt low)
-              (λ r n h. hears-other x (g .shape) 4 m lt low 3 r (λ p q. n q) ∙ f .senders r h);
-          exactly = we;
-          dealt = f .dealt;
-          none = λ i a h n k. hears-other x (g .shape) 4 m lt low a i (λ p q. let w : ⊥ = omega arith in w) ∙ f .none i a h n k;
+          slots = heard-slots x 4 m (f .slots);
+          progress = f .progress;
+          shares = record {
+            below = set-each (λ (i : ℕ) (v : Keep). i < 10 → keptBelow (groupIn x .q) (v .kept) ≡ true) (x .shares) m _ nothing place (λ h. below) (λ r n. f .shares .below r);
+            recovered-below = wb;
+            shared = λ i h e. commanded;
+            atMost = let a = share-more in let b = few in omega arith;
+            senders = set-each (λ (i : ℕ) (v : Keep). i < 10 → hears (heard x 4 m) 3 i ≡ isThere (v .kept)) (x .shares) m _ nothing place
+                (λ h. hears-own x (g .shape) 4 m lt low)
+                (λ r n h. hears-other x (g .shape) 4 m lt low 3 r (λ p q. n q) ∙ f .shares .senders r h);
+            exactly = we;
+          };
+          none = heard-none x g 4 m lt l;
         };
         shape = record {
           slots = g .shape .slots;

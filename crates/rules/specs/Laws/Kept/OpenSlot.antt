@@ -26,7 +26,9 @@ use Rattle.rules.specs.Dealing.{matrixPasses}
 use Rattle.rules.specs.Record.{silent, marked, placeAt, rowAt, matrixOf, isHeld, countE, countR, zeroSlot, entriesZero}
 use Rattle.rules.specs.Steps.{rowOf, opened}
 use Rattle.rules.specs.Laws.Shape.{ShapedSlot}
-use Rattle.rules.specs.Laws.Facts.{Side, byEcho, byReady, marksOf, Needed, Contents, PairRight, SlotFacts}
+use Rattle.rules.specs.declared.Side.{Side}
+use Rattle.rules.specs.declared.Side.the-variants.{ByEcho, ByReady}
+use Rattle.rules.specs.Laws.Facts.{marksOf, Needed, Contents, PairRight, SlotFacts}
 use Rattle.rules.specs.Laws.Matrices.{row-length, row-zero, matrix-height, matrix-filled, matrix-empty}
 
 -- ---- a matrix that fits: 8 by 8, would pass refusal 8, and is zero from k on
@@ -57,7 +59,7 @@ module _ (k : ℕ) (f : ℕ → ℕ → Element) where
       go (no h) g = ap at (matrix-empty k (element 0) f j a (omega arith)) ∙ getD-replicate 8 l (element 0) (element 0) b
 
 -- The matrix read out of a message fits if it would pass refusal 8.
-pub matrix-fits : (u : SetUp) (bytes : List ℕ) → matrixPasses (groupOf (u .group)) (u .k) (matrixIn (u .k) bytes) ≡ true → Fits u (matrixIn (u .k) bytes)
+pub matrix-fits : (u : SetUp) (bytes : List ℕ) → matrixPasses (groupOf (u .group)) (u .k) (matrixIn u bytes) ≡ true → Fits u (matrixIn u bytes)
 unfolding matrixIn
 matrix-fits u bytes h = record { passes = h; height = matrix-height (u .k) (element 0) _; width = matrix-width (u .k) _; zero = matrix-zero (u .k) _ }
 
@@ -89,8 +91,8 @@ zero-silent m l = getD-replicate 10 m silent silent l
 
 pub zero-unmarked : (b : Side) (m : ℕ) → m < 10 → marked (marksOf b zeroSlot) m ≡ false
 unfolding zeroSlot
-zero-unmarked byEcho m l = getD-replicate 10 m false false l
-zero-unmarked byReady m l = getD-replicate 10 m false false l
+zero-unmarked ByEcho m l = getD-replicate 10 m false false l
+zero-unmarked ByReady m l = getD-replicate 10 m false false l
 
 fresh-silent : (C : List (List Element)) (m : ℕ) → m < 10 → placeAt (fresh C) m ≡ silent
 unfolding fresh
@@ -98,8 +100,8 @@ fresh-silent C m l = zero-silent m l
 
 fresh-unmarked : (C : List (List Element)) (b : Side) (m : ℕ) → m < 10 → marked (marksOf b (fresh C)) m ≡ false
 unfolding fresh
-fresh-unmarked C byEcho m l = zero-unmarked byEcho m l
-fresh-unmarked C byReady m l = zero-unmarked byReady m l
+fresh-unmarked C ByEcho m l = zero-unmarked ByEcho m l
+fresh-unmarked C ByReady m l = zero-unmarked ByReady m l
 
 module _ (u : SetUp) (C : List (List Element)) (fit : Fits u C) where
   fresh-shape : ShapedSlot (fresh C)
@@ -133,7 +135,7 @@ module _ (u : SetUp) (C : List (List Element)) (fit : Fits u C) where
         points = λ m l. rw (fresh-silent C m l);
         pair = refl;
         passes = λ e. rw (fresh-matrix C) (fit .passes);
-        places = λ m l. silence m l ∙ sym (or-none _ _ (fresh-unmarked C byEcho m l) (fresh-unmarked C byReady m l));
+        places = λ m l. silence m l ∙ sym (or-none _ _ (fresh-unmarked C ByEcho m l) (fresh-unmarked C ByReady m l));
         zero = fresh-zero;
         above = λ m l g. silence m l;
       }
@@ -145,7 +147,7 @@ module _ (u : SetUp) (C : List (List Element)) (fit : Fits u C) where
 fresh-right : (u : SetUp) (C : List (List Element)) → Needed u → PairRight u (fresh C)
 unfolding countE countR fresh zeroSlot
 fresh-right u C z =
-    sym (or-none _ _ (lt-leb (echoQuorum u) _ (few byEcho (echoQuorum u) (omega arith))) (lt-leb (u .k) _ (few byReady (u .k) (omega arith))))
+    sym (or-none _ _ (lt-leb (echoQuorum u) _ (few ByEcho (echoQuorum u) (omega arith))) (lt-leb (u .k) _ (few ByReady (u .k) (omega arith))))
   where
     few : (b : Side) (n : ℕ) → 0 < n → countBelow 10 (marked (marksOf b (fresh C))) < n
     few b n l = rw (countBelow-none (marked (marksOf b (fresh C))) 10 (fresh-unmarked C b)) l

@@ -25,23 +25,18 @@ use Rattle.rules.specs.declared.Slot.{Slot}
 use Rattle.rules.specs.Numbers.{groupOf, echoQuorum}
 use Rattle.rules.specs.Dealing.{fourBelow}
 use Rattle.rules.specs.Record.{silent, marked, placeAt, matrixOf, isHeld, held, countE, countR, pointBelow, entriesZero}
-use Rattle.rules.specs.Steps.{mark, firstPoint, holding, keeping}
+use Rattle.rules.specs.Steps.{mark, firstPoint, hit, taken, keeping, readyDue}
 use Rattle.rules.specs.Laws.Shape.{ShapedSlot}
-use Rattle.rules.specs.Laws.Facts.{Side, byEcho, byReady, marksOf, Needed, Contents, PairRight}
+use Rattle.rules.specs.declared.Side.{Side}
+use Rattle.rules.specs.declared.Side.the-variants.{ByEcho, ByReady}
+use Rattle.rules.specs.Laws.Facts.{marksOf, Needed, Contents, PairRight}
 use Rattle.rules.specs.Laws.Kept.OpenSlot.{OpenFacts}
 
 abbrev pub other : Side → Side
-other byEcho = byReady
-other byReady = byEcho
+other ByEcho = ByReady
+other ByReady = ByEcho
 
 -- ---- the marks
-
--- the marks of side a, when a message of side b is taken
-abbrev hit : Side → Side → Marks → ℕ → Marks
-hit byEcho byEcho ms m = mark ms m
-hit byEcho byReady ms m = ms
-hit byReady byEcho ms m = ms
-hit byReady byReady ms m = mark ms m
 
 -- Who is marked stays marked.
 pub mark-stays : (ms : Marks) (m i : ℕ) → marked ms i ≡ true → marked (mark ms m) i ≡ true
@@ -61,20 +56,20 @@ module _ (ms : Marks) (shape : length (ms .at) ≡ 10) (m : ℕ) (l : m < 10) wh
   mark-other i n = getD-set-other (ms .at) m i true false n
 
   hit-own : (b : Side) → marked (hit b b ms m) m ≡ true
-  hit-own byEcho = mark-own
-  hit-own byReady = mark-own
+  hit-own ByEcho = mark-own
+  hit-own ByReady = mark-own
 
   hit-other : (a b : Side) (i : ℕ) → (i ≡ m → ⊥) → marked (hit a b ms m) i ≡ marked ms i
-  hit-other byEcho byEcho i n = mark-other i n
-  hit-other byEcho byReady i n = refl
-  hit-other byReady byEcho i n = refl
-  hit-other byReady byReady i n = mark-other i n
+  hit-other ByEcho ByEcho i n = mark-other i n
+  hit-other ByEcho ByReady i n = refl
+  hit-other ByReady ByEcho i n = refl
+  hit-other ByReady ByReady i n = mark-other i n
 
   hit-length : (a b : Side) → length (hit a b ms m .at) ≡ 10
-  hit-length byEcho byEcho = length-set (ms .at) m true ∙ shape
-  hit-length byEcho byReady = shape
-  hit-length byReady byEcho = shape
-  hit-length byReady byReady = length-set (ms .at) m true ∙ shape
+  hit-length ByEcho ByEcho = length-set (ms .at) m true ∙ shape
+  hit-length ByEcho ByReady = shape
+  hit-length ByReady ByEcho = shape
+  hit-length ByReady ByReady = length-set (ms .at) m true ∙ shape
 
   -- a mark is the new one or was there, and one that was there stays
   hit-cases : (a b : Side) (i : ℕ) → marked (hit a b ms m) i ≡ true → ((a ≡ b) × (i ≡ m)) ⊎ (marked ms i ≡ true)
@@ -82,48 +77,36 @@ module _ (ms : Marks) (shape : length (ms .at) ≡ 10) (m : ℕ) (l : m < 10) wh
     where
       go : (a b : Side) → Dec (i ≡ m) → marked (hit a b ms m) i ≡ true → ((a ≡ b) × (i ≡ m)) ⊎ (marked ms i ≡ true)
       go a b (no n) e = inr (sym (hit-other a b i n) ∙ e)
-      go byEcho byEcho (yes q) e = inl (refl, q)
-      go byEcho byReady (yes q) e = inr e
-      go byReady byEcho (yes q) e = inr e
-      go byReady byReady (yes q) e = inl (refl, q)
+      go ByEcho ByEcho (yes q) e = inl (refl, q)
+      go ByEcho ByReady (yes q) e = inr e
+      go ByReady ByEcho (yes q) e = inr e
+      go ByReady ByReady (yes q) e = inl (refl, q)
 
   hit-stays : (a b : Side) (i : ℕ) → marked ms i ≡ true → marked (hit a b ms m) i ≡ true
-  hit-stays byEcho byEcho i e = mark-stays ms m i e
-  hit-stays byEcho byReady i e = e
-  hit-stays byReady byEcho i e = e
-  hit-stays byReady byReady i e = mark-stays ms m i e
+  hit-stays ByEcho ByEcho i e = mark-stays ms m i e
+  hit-stays ByEcho ByReady i e = e
+  hit-stays ByReady ByEcho i e = e
+  hit-stays ByReady ByReady i e = mark-stays ms m i e
 
 -- ---- the slot that took a message
 
--- for the one side this is `echoed`, for the other `readied`
-abbrev pub taken : Side → Slot → ℕ → Four → Slot
-taken b slot m f =
-    record {
-      used = slot .used;
-      rows = slot .rows;
-      places = holding slot m f;
-      echoed = hit byEcho b (slot .echoed) m;
-      readied = hit byReady b (slot .readied) m;
-      pair = slot .pair;
-    }
-
 abbrev pub countOf : Side → Slot → ℕ
-countOf byEcho slot = countE slot
-countOf byReady slot = countR slot
+countOf ByEcho slot = countE slot
+countOf ByReady slot = countR slot
 
 -- It is the number of those marked.
 pub count-is : (a : Side) (slot : Slot) → countOf a slot ≡ countBelow 10 (marked (marksOf a slot))
 unfolding countE countR
-count-is byEcho slot = refl
-count-is byReady slot = refl
+count-is ByEcho slot = refl
+count-is ByReady slot = refl
 
 marks-shape : (a : Side) (slot : Slot) → ShapedSlot slot → length (marksOf a slot .at) ≡ 10
-marks-shape byEcho slot shape = shape .echoed
-marks-shape byReady slot shape = shape .readied
+marks-shape ByEcho slot shape = shape .echoed
+marks-shape ByReady slot shape = shape .readied
 
 taken-marks : (a b : Side) (slot : Slot) (m : ℕ) (f : Four) → marksOf a (taken b slot m f) ≡ hit a b (marksOf a slot) m
-taken-marks byEcho b slot m f = refl
-taken-marks byReady b slot m f = refl
+taken-marks ByEcho b slot m f = refl
+taken-marks ByReady b slot m f = refl
 
 first-held : (p : Point) (f : Four) → isHeld (firstPoint p f) ≡ true
 first-held Silent f = refl
@@ -144,9 +127,9 @@ module _ (b : Side) (slot : Slot) (shape : ShapedSlot slot) (m : ℕ) (l : m < 1
   held-own : held (taken b slot m f) m ≡ true
   held-own = ap isHeld place-own ∙ first-held (placeAt slot m .point) f
 
-  either-own : (c : Side) → marked (hit byEcho c (slot .echoed) m) m or marked (hit byReady c (slot .readied) m) m ≡ true
-  either-own byEcho = or-left _ _ (mark-own (slot .echoed) (shape .echoed) m l)
-  either-own byReady = or-right (marked (slot .echoed) m) _ (mark-own (slot .readied) (shape .readied) m l)
+  either-own : (c : Side) → marked (hit ByEcho c (slot .echoed) m) m or marked (hit ByReady c (slot .readied) m) m ≡ true
+  either-own ByEcho = or-left _ _ (mark-own (slot .echoed) (shape .echoed) m l)
+  either-own ByReady = or-right (marked (slot .echoed) m) _ (mark-own (slot .readied) (shape .readied) m l)
 
   -- It marks the sender, and whom it marked before.
   pub taken-cases : (a : Side) (i : ℕ) → marked (marksOf a (taken b slot m f)) i ≡ true → ((a ≡ b) × (i ≡ m)) ⊎ (marked (marksOf a slot) i ≡ true)
@@ -159,8 +142,8 @@ module _ (b : Side) (slot : Slot) (shape : ShapedSlot slot) (m : ℕ) (l : m < 1
         rows = shape .rows;
         row = shape .row;
         places = length-set (slot .places) m _ ∙ shape .places;
-        echoed = hit-length (slot .echoed) (shape .echoed) m l byEcho b;
-        readied = hit-length (slot .readied) (shape .readied) m l byReady b;
+        echoed = hit-length (slot .echoed) (shape .echoed) m l ByEcho b;
+        readied = hit-length (slot .readied) (shape .readied) m l ByReady b;
       }
 
   -- ---- its counts
@@ -181,8 +164,8 @@ module _ (b : Side) (slot : Slot) (shape : ShapedSlot slot) (m : ℕ) (l : m < 1
 
 count-other : (b : Side) (slot : Slot) (m : ℕ) (f : Four) → countOf (other b) (taken b slot m f) ≡ countOf (other b) slot
 unfolding countE countR
-count-other byEcho slot m f = refl
-count-other byReady slot m f = refl
+count-other ByEcho slot m f = refl
+count-other ByReady slot m f = refl
 
 -- ---- what it holds
 
@@ -211,22 +194,24 @@ module _ (u : SetUp) (z : Needed u) (b : Side) (slot : Slot) (o : OpenFacts u sl
       points i g (yes e) = rw (e, place-own b slot (o .shape) m low f) (first-below _ (placeAt slot m .point) f (o .contents .points m low) below)
       points i g (no n) = rw (place-other b slot (o .shape) m low f i n) (o .contents .points i g)
 
-      places : (i : ℕ) → i < 10 → Dec (i ≡ m) → held (taken b slot m f) i ≡ marked (hit byEcho b (slot .echoed) m) i or marked (hit byReady b (slot .readied) m) i
+      places : (i : ℕ) → i < 10 → Dec (i ≡ m) → held (taken b slot m f) i ≡ marked (hit ByEcho b (slot .echoed) m) i or marked (hit ByReady b (slot .readied) m) i
       places i g (yes e) = rw e (held-own b slot (o .shape) m low f ∙ sym (either-own b slot (o .shape) m low f b))
       places i g (no n) =
-          rw (place-other b slot (o .shape) m low f i n, hit-other (slot .echoed) (o .shape .echoed) m low byEcho b i n, hit-other (slot .readied) (o .shape .readied) m low byReady b i n)
+          rw (place-other b slot (o .shape) m low f i n, hit-other (slot .echoed) (o .shape .echoed) m low ByEcho b i n, hit-other (slot .readied) (o .shape .readied) m low ByReady b i n)
           (o .contents .places i g)
 
 -- ---- when a pair is kept
 
 -- what the count of a side is measured by
 abbrev pub aim : SetUp → Side → ℕ
-aim u byEcho = echoQuorum u
-aim u byReady = u .k
+aim u ByEcho = echoQuorum u
+aim u ByReady = u .k
 
--- the test by which a ready is sent and a pair kept
-abbrev pub firstAt : SetUp → Side → Slot → Bool
-firstAt u b slot = eqb (countOf b slot) (aim u b) and ltb (countOf (other b) slot) (aim u (other b))
+-- Ready is sent, and a pair kept, where the count of a side has just reached its aim and the other's has not.
+pub due-sides : (u : SetUp) (b : Side) (slot : Slot)
+    → readyDue u b slot ≡ eqb (countOf b slot) (aim u b) and ltb (countOf (other b) slot) (aim u (other b))
+due-sides u ByEcho slot = refl
+due-sides u ByReady slot = refl
 
 or-comm : (a b : Bool) → a or b ≡ b or a
 or-comm true true = refl
@@ -237,8 +222,8 @@ or-comm false false = refl
 -- Whether a pair is to be there does not go by the order of the sides.
 pub either-side : (u : SetUp) (b : Side) (slot : Slot)
     → leb (echoQuorum u) (countE slot) or leb (u .k) (countR slot) ≡ leb (aim u b) (countOf b slot) or leb (aim u (other b)) (countOf (other b) slot)
-either-side u byEcho slot = refl
-either-side u byReady slot = or-comm (leb (echoQuorum u) (countE slot)) (leb (u .k) (countR slot))
+either-side u ByEcho slot = refl
+either-side u ByReady slot = or-comm (leb (echoQuorum u) (countE slot)) (leb (u .k) (countR slot))
 
 -- one more, but not to the aim A while c is below B: whether a side has reached its aim comes out as before
 step-or : (A a B c : ℕ) → eqb (a + 1) A and ltb c B ≡ false → leb A a or leb B c ≡ leb A (a + 1) or leb B c
@@ -255,15 +240,15 @@ step-or A a B c e =
 
 -- Where the test fails, the pair that the slot has is right.
 pub right-stays : (u : SetUp) (b : Side) (slot : Slot) (m : ℕ) (f : Four) → ShapedSlot slot → m < 10 → marked (marksOf b slot) m ≡ false
-    → PairRight u slot → firstAt u b (taken b slot m f) ≡ false → PairRight u (taken b slot m f)
+    → PairRight u slot → readyDue u b (taken b slot m f) ≡ false → PairRight u (taken b slot m f)
 right-stays u b slot m f shape l e h t =
     let up = count-up b slot shape m l f e in
     let stays = count-other b slot m f in
-    h ∙ either-side u b slot ∙ step-or (aim u b) (countOf b slot) (aim u (other b)) (countOf (other b) slot) (rw (← up, ← stays) t)
+    h ∙ either-side u b slot ∙ step-or (aim u b) (countOf b slot) (aim u (other b)) (countOf (other b) slot) (rw (← up, ← stays) (sym (due-sides u b (taken b slot m f)) ∙ t))
     ∙ (rw (← up, ← stays) (sym (either-side u b (taken b slot m f))))
 
 -- Where it passes, the pair kept now is right.
-pub right-kept : (u : SetUp) (b : Side) (slot : Slot) (p : Pair) → firstAt u b slot ≡ true → PairRight u (keeping slot p)
+pub right-kept : (u : SetUp) (b : Side) (slot : Slot) (p : Pair) → readyDue u b slot ≡ true → PairRight u (keeping slot p)
 unfolding keeping countE countR
 right-kept u b slot p h =
-    sym (either-side u b slot ∙ or-left _ _ (le-leb (aim u b) (countOf b slot) (let e = eqb-true (countOf b slot) (aim u b) (and-left _ _ h) in omega arith)))
+    sym (either-side u b slot ∙ or-left _ _ (le-leb (aim u b) (countOf b slot) (let e = eqb-true (countOf b slot) (aim u b) (and-left _ _ (sym (due-sides u b slot) ∙ h)) in omega arith)))

@@ -4,17 +4,11 @@ use borrow.Author.Tests.{lt-ltb, le-ltb}
 use Rattle.text.proofs.hexadecimal.glyph_of.Statement.{statement}
 use Rattle.text.proofs.hexadecimal.glyph_of.Tie as tie
 
-add-result : tie.Need-add-result
-add-result c = search needs
-
-returns : tie.Need-returns
-returns c = rw (lt-ltb _ _ (c .if1 .taken))
-
-add-result-2 : tie.Need-add-result-2
-add-result-2 c = search needs
-
-returns-2 : tie.Need-returns-2
-returns-2 c = rw (le-ltb _ _ (c .if1 .left))
-
 pub glyph-of-spec : {M : Type 1} → statement M
-glyph-of-spec = tie.close (tie.spec add-result returns add-result-2 returns-2)
+glyph-of-spec =
+    tie.close
+    (tie.spec
+    (λ c. search needs)
+    (λ c. rw (lt-ltb _ _ (c .if1 .taken)))
+    (λ c. search needs)
+    (λ c. rw (le-ltb _ _ (c .if1 .left))))

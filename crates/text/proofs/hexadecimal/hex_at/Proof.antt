@@ -7,10 +7,9 @@ use native.Mathlib.Omega.{arith}
 use mathlib.Core.Bool.{true}
 use mathlib.Core.Path.{_≡_, sym, _∙_}
 use lib.ListN.{length}
-use borrow.Author.Tests.{not-true, not-false}
+use Rattle.folds.specs.Tests.{failed, passed}
 use Rattle.folds.specs.Below.{allBelow, allBelow-zero, allBelow-more, allBelow-not}
-use Rattle.text.specs.Hexadecimal.{hexAt}
-use Rattle.text.specs.Laws.{hexStands, hex-there, hex-none, hex-short}
+use Rattle.text.specs.Hexadecimal.{hexAt, hexStands, hex-there, hex-none, hex-short}
 use Rattle.text.proofs.hexadecimal.hex_at.Statement.{statement}
 use Rattle.text.proofs.hexadecimal.hex_at.Tie as tie
 
@@ -20,67 +19,35 @@ Inv-loop b i n rest j₀ j = (j ≤ 2 * n) × (2 * n ≤ rest) × (allBelow j (h
 abbrev μ-loop : tie.MeasureT-loop
 μ-loop b i n rest j₀ j = 2 * n - j
 
-returns : tie.Need-returns Inv-loop μ-loop
-returns c =
-    let given = c .before .before .args in
-    hex-none (given .b .now) (given .i) (given .n) (c .if1 .taken)
+abbrev start : tie.At-loop Inv-loop μ-loop → tie.Start Inv-loop μ-loop
+start c = c .before .before .before .before
 
-sub-rest : tie.Need-sub-rest Inv-loop μ-loop
-sub-rest c = search needs
-
-returns-2 : tie.Need-returns-2 Inv-loop μ-loop
-returns-2 c =
-    let given = c .before .before .before .args in
-    sym (hex-short (given .b .now) (given .i) (given .n) (omega arith) (c .if2 .taken))
+-- digit j is tested
+tested : (c : tie.After-is-hex-digit Inv-loop μ-loop)
+    → let loop = c .before .before .before in
+    c .is-hex-digit .result ≡ hexStands (start loop .args .b .now) (start loop .args .i) (loop .loop .j)
+tested c =
+    let loop = c .before .before .before in
+    c .is-hex-digit .ensures ∙ sym (hex-there (start loop .args .b .now) (start loop .args .i) (loop .loop .j) (omega arith))
 
 loop-holds : tie.Need-loop-holds Inv-loop μ-loop
 loop-holds c =
     let given = c .before .before .before .args in
     (omega arith, omega (arith, mul-div-le (length (given .b .now) - given .i) 2), allBelow-zero _)
 
-mul-loop : tie.Need-mul-loop Inv-loop μ-loop
-mul-loop c = omega arith
-
-add-is-hex-digit : tie.Need-add-is-hex-digit Inv-loop μ-loop
-add-is-hex-digit c = omega arith
-
-shared-slice-read-is-hex-digit : tie.Need-shared-slice-read-is-hex-digit Inv-loop μ-loop
-shared-slice-read-is-hex-digit c = omega arith
-
-is-hex-digit-requires : tie.Need-is-hex-digit-requires Inv-loop μ-loop
-is-hex-digit-requires c κs = search needs
-
 returns-3 : tie.Need-returns-3 Inv-loop μ-loop
 unfolding hexAt
-returns-3 c =
-    let turn = c .before .before .before in
-    let given = turn .before .before .before .before .before .args in
-    let j = turn .before .loop .j in
-    sym
-    (allBelow-not (hexStands (given .b .now) (given .i)) (2 * given .n) j (turn .loop-test .taken)
-    (hex-there (given .b .now) (given .i) j (omega arith) ∙ sym (c .before .is-hex-digit .ensures) ∙ not-true _ (c .if3 .taken)))
-
-add-j : tie.Need-add-j Inv-loop μ-loop
-add-j c = omega arith
-
-loop-less : tie.Need-loop-less Inv-loop μ-loop
-loop-less c = omega arith
+returns-3 c = sym (allBelow-not _ _ _ (c .before .before .before .loop-test .taken) (failed (tested (c .before)) (c .if3 .taken)))
 
 loop-again : tie.Need-loop-again Inv-loop μ-loop
 loop-again c =
-    let turn = c .before .before .before in
-    let given = turn .before .before .before .before .before .args in
-    let j = turn .before .loop .j in (
-      omega arith,
-      turn .before .loop .inv .1,
-      allBelow-more (hexStands (given .b .now) (given .i)) j (turn .before .loop .inv .2)
-          (hex-there (given .b .now) (given .i) j (omega arith) ∙ sym (c .before .is-hex-digit .ensures) ∙ not-false _ (c .if3 .left)),
-    )
+    let inv = c .before .before .before .before .loop .inv in
+    (omega arith, inv .1, allBelow-more _ _ (inv .2) (passed (tested (c .before)) (c .if3 .left)))
 
 returns-4 : tie.Need-returns-4 Inv-loop μ-loop
 unfolding hexAt
 returns-4 c =
-    let all : c .before .loop .j ≡ 2 * c .before .before .before .before .before .args .n = omega arith in
+    let all : c .before .loop .j ≡ 2 * start (c .before) .args .n = omega arith in
     sym (rw all at (c .before .loop .inv .2))
 
 pub hex-at-spec : {M : Type 1} → statement M
@@ -89,16 +56,13 @@ hex-at-spec =
     (tie.spec
     Inv-loop
     μ-loop
-    returns
-    sub-rest
-    returns-2
+    (λ c. hex-none _ _ _ (c .if1 .taken))
+    (λ c. search needs)
+    (λ c. sym (hex-short _ _ _ (omega arith) (c .if2 .taken)))
     loop-holds
-    mul-loop
-    add-is-hex-digit
-    shared-slice-read-is-hex-digit
-    is-hex-digit-requires
+    (λ c. omega arith) (λ c. omega arith) (λ c. omega arith) (λ c κs. search needs)
     returns-3
-    add-j
-    loop-less
+    (λ c. omega arith)
+    (λ c. omega arith)
     loop-again
     returns-4)

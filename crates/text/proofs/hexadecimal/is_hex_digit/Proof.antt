@@ -9,9 +9,6 @@ use Rattle.folds.specs.Tests.{and-false}
 use Rattle.text.proofs.hexadecimal.is_hex_digit.Statement.{statement}
 use Rattle.text.proofs.hexadecimal.is_hex_digit.Tie as tie
 
-returns : tie.Need-returns
-returns c = rw (le-leb _ _ (c .before .if1 .taken), c .if2 .taken)
-
 returns-2 : tie.Need-returns-2
 returns-2 c =
     let x = c .before .before .args .x in
@@ -31,4 +28,9 @@ returns-3 c =
     (c .before .if1 .came)
 
 pub is-hex-digit-spec : {M : Type 1} → statement M
-is-hex-digit-spec = tie.close (tie.spec returns returns-2 returns-3)
+is-hex-digit-spec =
+    tie.close
+    (tie.spec
+    (λ c. rw (le-leb _ _ (c .before .if1 .taken), c .if2 .taken))
+    returns-2
+    returns-3)

@@ -21,27 +21,15 @@ loop-holds : tie.Need-loop-holds Inv-loop μ-loop
 unfolding digitsEnd
 loop-holds c = refl
 
-digit-at-requires : tie.Need-digit-at-requires Inv-loop μ-loop
-digit-at-requires c κs = search needs
-
 returns : tie.Need-returns Inv-loop μ-loop
 returns c =
     let turn = c .before .before in
     sym (firstFrom-here _ _ _ (turn .loop-test .taken) (ap not (sym (c .before .digit-at .ensures)) ∙ c .if1 .taken)) ∙ turn .before .loop .inv
 
-add-j : tie.Need-add-j Inv-loop μ-loop
-add-j c = omega arith
-
-loop-less : tie.Need-loop-less Inv-loop μ-loop
-loop-less c = omega arith
-
 loop-again : tie.Need-loop-again Inv-loop μ-loop
 loop-again c =
     let turn = c .before .before in
     sym (firstFrom-skip _ _ _ (turn .loop-test .taken) (ap not (sym (c .before .digit-at .ensures)) ∙ c .if1 .left)) ∙ turn .before .loop .inv
-
-returns-2 : tie.Need-returns-2 Inv-loop μ-loop
-returns-2 c = sym (firstFrom-none _ _ _ (c .loop-test .left)) ∙ c .before .loop .inv
 
 pub digits-end-spec : {M : Type 1} → statement M
 digits-end-spec =
@@ -50,9 +38,9 @@ digits-end-spec =
     Inv-loop
     μ-loop
     loop-holds
-    digit-at-requires
+    (λ c κs. search needs)
     returns
-    add-j
-    loop-less
+    (λ c. omega arith)
+    (λ c. omega arith)
     loop-again
-    returns-2)
+    (λ c. sym (firstFrom-none _ _ _ (c .loop-test .left)) ∙ c .before .loop .inv))

@@ -2,15 +2,10 @@
 use borrow.Author.Needs.{needs}
 use mathlib.Core.Path.{ap, _∙_}
 use Rattle.rules.specs.Text.{isDecimal, decimalAt}
-use Rattle.text.specs.Laws.{decimal-number, number-decimal}
+use Rattle.text.specs.Decimals.{decimal-number}
+use Rattle.text.specs.Lines.{number-decimal}
 use Rattle.text.proofs.read.number_at.Statement.{statement}
 use Rattle.text.proofs.read.number_at.Tie as tie
-
-number-place-requires : tie.Need-number-place-requires
-number-place-requires c κs = search needs
-
-decimal-at-requires : tie.Need-decimal-at-requires
-decimal-at-requires c κs = search needs
 
 returns : tie.Need-returns
 returns c =
@@ -23,4 +18,4 @@ returns c =
     ∙ ap (decimalAt b) place
 
 pub number-at-spec : {M : Type 1} → statement M
-number-at-spec = tie.close (tie.spec number-place-requires decimal-at-requires returns)
+number-at-spec = tie.close (tie.spec (λ c κs. search needs) (λ c κs. search needs) returns)

@@ -5,7 +5,7 @@ use Prim.Native.Nat.{_+_, _-_, _≤_}
 use native.Mathlib.Omega.{arith}
 use mathlib.Core.Path.{_≡_, sym, ap, _∙_}
 use Rattle.rules.specs.Text.{digitsEnd, numberPlace}
-use Rattle.text.specs.Laws.{numberPlace-zero, numberPlace-more, number-within}
+use Rattle.text.specs.Lines.{numberPlace-zero, numberPlace-more, number-within}
 use Rattle.text.proofs.read.number_place.Statement.{statement}
 use Rattle.text.proofs.read.number_place.Tie as tie
 
@@ -15,38 +15,18 @@ Inv-loop b i m j place₀ l₀ place l = (l ≤ j) × (place ≡ numberPlace b i
 abbrev μ-loop : tie.MeasureT-loop
 μ-loop b i m j place₀ l₀ place l = j - l
 
-loop-holds : tie.Need-loop-holds Inv-loop μ-loop
-loop-holds c = (omega arith, sym (numberPlace-zero _ _))
+abbrev start : tie.After-digits-end Inv-loop μ-loop → tie.Start Inv-loop μ-loop
+start c = c .before .before .before .before
 
-digits-end-requires : tie.Need-digits-end-requires Inv-loop μ-loop
-digits-end-requires c κs = search needs
+-- where the digits of number l end
+ends : (c : tie.After-digits-end Inv-loop μ-loop)
+    → c .digits-end .result ≡ digitsEnd (start c .args .b .now) (numberPlace (start c .args .b .now) (start c .args .i) (c .before .before .loop .l))
+ends c = c .digits-end .ensures ∙ ap (digitsEnd _) (c .before .before .loop .inv .1)
 
 add-place : tie.Need-add-place Inv-loop μ-loop
 add-place c =
-    let turn = c .before .before in
-    let start = turn .before .before in
-    let given = start .args in
-    let b = given .b .now in
-    let e : c .digits-end .result ≡ digitsEnd b (numberPlace b (given .i) (turn .loop .l)) = c .digits-end .ensures ∙ ap (digitsEnd b) (turn .loop .inv .1) in
-    omega (arith, number-within b (given .i) (given .m) (turn .loop .l) (start .pre .0) (omega arith))
-
-add-l : tie.Need-add-l Inv-loop μ-loop
-add-l c = omega arith
-
-loop-less : tie.Need-loop-less Inv-loop μ-loop
-loop-less c = omega arith
-
-loop-again : tie.Need-loop-again Inv-loop μ-loop
-loop-again c =
-    let turn = c .before .before in
-    let given = turn .before .before .args in
-    let b = given .b .now in
-    (omega arith, ap (λ n. n + 1) (c .digits-end .ensures ∙ ap (digitsEnd b) (turn .loop .inv .1)) ∙ sym (numberPlace-more b (given .i) (turn .loop .l)))
-
-returns : tie.Need-returns Inv-loop μ-loop
-returns c =
-    let e : c .before .loop .l ≡ c .before .before .before .args .j = omega arith in
-    rw e at (c .before .loop .inv .1)
+    let given = start c .args in
+    omega (arith, ends c, number-within (given .b .now) (given .i) (given .m) (c .before .before .loop .l) (start c .pre .0) (omega arith))
 
 pub number-place-spec : {M : Type 1} → statement M
 number-place-spec =
@@ -54,10 +34,10 @@ number-place-spec =
     (tie.spec
     Inv-loop
     μ-loop
-    loop-holds
-    digits-end-requires
+    (λ c. (omega arith, sym (numberPlace-zero _ _)))
+    (λ c κs. search needs)
     add-place
-    add-l
-    loop-less
-    loop-again
-    returns)
+    (λ c. omega arith)
+    (λ c. omega arith)
+    (λ c. (omega arith, ap (λ n. n + 1) (ends c) ∙ sym (numberPlace-more _ _ _)))
+    (λ c. let all : c .before .loop .l ≡ c .before .before .before .args .j = omega arith in rw all at (c .before .loop .inv .1)))

@@ -6,9 +6,11 @@ use native.Mathlib.Omega.{arith}
 use mathlib.Core.Bool.{true}
 use mathlib.Core.Path.{_≡_, sym, _∙_}
 use borrow.Author.Tests.{not-true, not-false}
+use Rattle.folds.specs.Tests.{failed, passed}
 use Rattle.folds.specs.Below.{allBelow, allBelow-zero, allBelow-more, allBelow-not}
 use Rattle.rules.specs.Text.{numberPlace, numbersAt}
-use Rattle.text.specs.Laws.{byte-within, numberStands, numberPlace-zero, behind-is, number-none, number-behind, number-next}
+use Rattle.text.specs.Decimals.{byte-within}
+use Rattle.text.specs.Lines.{numberStands, numberPlace-zero, behind-is, number-none, number-behind, number-next}
 use Rattle.text.proofs.read.numbers_at.Statement.{statement}
 use Rattle.text.proofs.read.numbers_at.Tie as tie
 
@@ -18,74 +20,52 @@ Inv-loop b i m place₀ j₀ place j = (j ≤ m) × (place ≡ numberPlace b i j
 abbrev μ-loop : tie.MeasureT-loop
 μ-loop b i m place₀ j₀ place j = m - j
 
-loop-holds : tie.Need-loop-holds Inv-loop μ-loop
-loop-holds c = (omega arith, sym (numberPlace-zero _ _), allBelow-zero _)
+abbrev start : tie.After-decimal-at Inv-loop μ-loop → tie.Start Inv-loop μ-loop
+start c = c .before .before .before .before
 
-decimal-at-requires : tie.Need-decimal-at-requires Inv-loop μ-loop
-decimal-at-requires c κs = search needs
+-- the number that was read, and the test of it
+abbrev read : tie.After-byte-at Inv-loop μ-loop → tie.After-decimal-at Inv-loop μ-loop
+read c = c .before .before .before .before
+
+tested : (c : tie.After-byte-at Inv-loop μ-loop)
+    → let given = start (read c) .args in c .byte-at .result ≡ numberStands (given .b .now) (given .i) (given .m) (read c .before .before .loop .j)
+tested c =
+    let given = start (read c) .args in
+    let loop = read c .before .before .loop in
+    c .byte-at .ensures
+    ∙ sym
+    (number-behind (given .b .now) (given .i) (given .m) (loop .j) (loop .inv .1) (read c .decimal-at .ensures) (not-false _ (c .before .before .if1 .left))
+    (behind-is (loop .j) (given .m) (c .before .if2 .came) (λ w. w .taken) (λ w. w .left)))
 
 returns : tie.Need-returns Inv-loop μ-loop
 unfolding numbersAt
 returns c =
-    let read = c .before .before in
-    let turn = read .before in
-    let given = turn .before .before .before .args in
-    let b = given .b .now in
-    let j = turn .before .loop .j in
+    let found = c .before .before in
+    let given = start found .args in
+    let loop = found .before .before .loop in
     sym
-    (allBelow-not (numberStands b (given .i) (given .m)) (given .m) j (turn .loop-test .taken)
-    (number-none b (given .i) (given .m) j (turn .before .loop .inv .1) (read .decimal-at .ensures) (not-true _ (c .if1 .taken))))
-
-add-j : tie.Need-add-j Inv-loop μ-loop
-add-j c = omega arith
-
-byte-at-requires : tie.Need-byte-at-requires Inv-loop μ-loop
-byte-at-requires c κs = search needs
+    (allBelow-not _ (given .m) (loop .j) (found .before .loop-test .taken)
+    (number-none (given .b .now) (given .i) (given .m) (loop .j) (loop .inv .1) (found .decimal-at .ensures) (not-true _ (c .if1 .taken))))
 
 returns-2 : tie.Need-returns-2 Inv-loop μ-loop
 unfolding numbersAt
 returns-2 c =
-    let joined = c .before .before in
-    let read = joined .before .before .before in
-    let turn = read .before in
-    let given = turn .before .before .before .args in
-    let b = given .b .now in
-    let j = turn .before .loop .j in
-    let behind = behind-is j (given .m) (joined .if2 .came) (λ w. w .taken) (λ w. w .left) in
-    sym
-    (allBelow-not (numberStands b (given .i) (given .m)) (given .m) j (turn .loop-test .taken)
-    (number-behind b (given .i) (given .m) j (turn .before .loop .inv .1) (read .decimal-at .ensures) (not-false _ (joined .before .if1 .left)) behind
-    ∙ sym (c .before .byte-at .ensures)
-    ∙ not-true _ (c .if3 .taken)))
+    let turn = read (c .before) .before in
+    sym (allBelow-not _ _ _ (turn .loop-test .taken) (failed (tested (c .before)) (c .if3 .taken)))
 
 add-place : tie.Need-add-place Inv-loop μ-loop
 add-place c =
-    let tested = c .before .before in
-    let read = tested .before .before .before .before in
-    let given = read .before .before .before .before .args in
-    let within = byte-within (given .b .now) (read .decimal-at .result .end) (tested .before .if2 .behind) (sym (tested .byte-at .ensures) ∙ not-false _ (c .before .if3 .left)) in
-    omega arith
-
-loop-less : tie.Need-loop-less Inv-loop μ-loop
-loop-less c = omega arith
+    let test = c .before .before in
+    omega (arith, byte-within (start (read test) .args .b .now) (read test .decimal-at .result .end) (test .before .if2 .behind) (passed (test .byte-at .ensures) (c .before .if3 .left)))
 
 loop-again : tie.Need-loop-again Inv-loop μ-loop
 loop-again c =
-    let tested = c .before .before in
-    let joined = tested .before in
-    let read = joined .before .before .before in
-    let turn = read .before in
-    let given = turn .before .before .before .args in
-    let b = given .b .now in
-    let j = turn .before .loop .j in
-    let inv = turn .before .loop .inv in
-    let behind = behind-is j (given .m) (joined .if2 .came) (λ w. w .taken) (λ w. w .left) in (
+    let test = c .before .before in
+    let given = start (read test) .args in
+    let loop = read test .before .before .loop in (
       omega arith,
-      number-next b (given .i) (given .m) j (inv .1) (read .decimal-at .ensures),
-      allBelow-more (numberStands b (given .i) (given .m)) j (inv .2)
-          (number-behind b (given .i) (given .m) j (inv .1) (read .decimal-at .ensures) (not-false _ (joined .before .if1 .left)) behind
-          ∙ sym (tested .byte-at .ensures)
-          ∙ not-false _ (c .before .if3 .left)),
+      number-next (given .b .now) (given .i) (given .m) (loop .j) (loop .inv .1) (read test .decimal-at .ensures),
+      allBelow-more _ (loop .j) (loop .inv .2) (passed (tested test) (c .before .if3 .left)),
     )
 
 returns-3 : tie.Need-returns-3 Inv-loop μ-loop
@@ -100,13 +80,13 @@ numbers-at-spec =
     (tie.spec
     Inv-loop
     μ-loop
-    loop-holds
-    decimal-at-requires
+    (λ c. (omega arith, sym (numberPlace-zero _ _), allBelow-zero _))
+    (λ c κs. search needs)
     returns
-    add-j
-    byte-at-requires
+    (λ c. omega arith)
+    (λ c κs. search needs)
     returns-2
     add-place
-    loop-less
+    (λ c. omega arith)
     loop-again
     returns-3)

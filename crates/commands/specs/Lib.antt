@@ -1,2 +1,0 @@
--- The laws that the proofs of the two commands share.
-pub mod Refusals

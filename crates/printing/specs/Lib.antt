@@ -1,0 +1,2 @@
+-- How proofs of the programs are written.
+pub mod Found

@@ -1,0 +1,2 @@
+-- How a text of changes is laid out.
+pub mod Lies

@@ -1,0 +1,2 @@
+-- What only the contracts here name.
+pub mod Asked

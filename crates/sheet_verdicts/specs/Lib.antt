@@ -1,0 +1,3 @@
+-- What only the contracts here name.
+pub mod Verdicts
+pub mod Lines

@@ -1,2 +1,0 @@
--- What is known of a delivery past each refusal.
-pub mod Past

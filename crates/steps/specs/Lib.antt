@@ -1,3 +1,0 @@
--- What only the contracts of the steps name, and the laws that their proofs share.
-pub mod Takes
-pub mod Laws
