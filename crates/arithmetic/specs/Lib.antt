@@ -1,2 +1,2 @@
--- Loops, as the proofs of this crate and of those above it say them.
-pub mod Loops
+-- Powers, as the loops of this crate and of those above it carry them on.
+pub mod Powers

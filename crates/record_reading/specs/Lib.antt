@@ -1,3 +1,2 @@
--- What the tests of slots name beside the definitions of `rules`, and the loops that make them.
-pub mod Loops
+-- What the tests of slots name beside the definitions of `rules`.
 pub mod Slots

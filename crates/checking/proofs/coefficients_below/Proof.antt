@@ -6,7 +6,7 @@ use borrow.Author.Needs.{needs}
 use borrow.Author.Tests.{lt-ltb, le-ltb}
 use Rattle.rules.specs.Matrices.{coefficient}
 use Rattle.rules.specs.Dealing.{coefficientsBelow}
-use Rattle.arithmetic.specs.Loops.{Passing, passing-none, passing-more, passing-not, passing-all}
+use Rattle.folds.specs.Loops.{Passing, passing-none, passing-more, passing-not, passing-all}
 use Rattle.checking.proofs.coefficients_below.Statement.{statement}
 use Rattle.checking.proofs.coefficients_below.Tie as tie
 

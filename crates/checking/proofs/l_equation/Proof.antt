@@ -1,5 +1,6 @@
 -- `l_equation` is the equation at l, over column l. Assumes nothing.
 use borrow.Author.Needs.{needs}
+use Rattle.folds.specs.Found.{found5}
 use Rattle.rules.specs.Dealing.{lEquation}
 use Rattle.checking.proofs.Lines.{column-line, column-opens}
 use Rattle.checking.proofs.l_equation.Statement.{statement}
@@ -12,12 +13,7 @@ pub l-equation-spec : {M : Type 1} → statement M
 unfolding lEquation
 l-equation-spec =
     tie.close
-    (tie.spec
-    (λ c κs. search needs)
-    (λ c. search needs)
-    (λ c. search needs)
-    (λ c. search needs)
-    (λ c. search needs)
+    (found5 tie.spec (search needs)
     (λ c κs. let s = start (c .before .before) in
     rw (c .before .before .column .ensures) (column-line (s .pre .0) _ (λ some. s .pre .1)))
     (λ c. let called = c .before .before .before in

@@ -6,7 +6,7 @@ use Rattle.folds.specs.Tests.{failed, passed}
 use Rattle.folds.specs.Below.{allBelow}
 use Rattle.rules.specs.Matrices.{entry}
 use Rattle.rules.specs.Dealing.{inGroup, matrixPasses}
-use Rattle.arithmetic.specs.Loops.{Passing, passing-none, passing-more, passing-not, passing-all}
+use Rattle.folds.specs.Loops.{Passing, passing-none, passing-more, passing-not, passing-all}
 use Rattle.checking.proofs.matrix_passes.Statement.{statement}
 use Rattle.checking.proofs.matrix_passes.Tie as tie
 

@@ -7,6 +7,7 @@ use native.Mathlib.Nat.{one-mul, pow-zero}
 use native.Mathlib.Omega.{arith}
 use lib.ListN.{getD}
 use borrow.Author.Needs.{needs}
+use Rattle.folds.specs.Found.{found4}
 use Rattle.folds.specs.Below.{prodBelow, prodBelow-zero}
 use Rattle.algebra.specs.Residues.{mul-cong}
 use Rattle.algebra.specs.Sums.{prod-mod-more-mod}
@@ -55,7 +56,7 @@ pub opened-at-spec : {M : Type 1} → statement M
 unfolding openedAt
 opened-at-spec =
     tie.close
-    (tie.spec
+    (found4 (tie.spec
     Inv-loop
     (λ group k x y c p q made₀ power₀ j₀ made power j. k - j)
     (λ c. search needs)
@@ -66,11 +67,7 @@ opened-at-spec =
     ))
     (λ c. search needs)
     (λ c. search needs)
-    (λ c κs. row-line (c .before .before .before .pre) _ (c .before .loop-test .taken))
-    (λ c κs. search needs)
-    (λ c κs. search needs)
-    (λ c. search needs)
-    (λ c. search needs)
+    (λ c κs. row-line (c .before .before .before .pre) _ (c .before .loop-test .taken))) (search needs)
     loop-again
     (λ c. let all : c .before .loop .j ≡ c .before .before .args .k = omega arith in
     ap element (rw all at (c .before .loop .inv .1))))

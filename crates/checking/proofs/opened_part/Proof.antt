@@ -5,6 +5,7 @@ use Prim.Native.Nat.{ℕ, _+_, _-_, _*_, _%_, _^_, _≤_}
 use native.Mathlib.Nat.{mul-one, pow-zero}
 use native.Mathlib.Omega.{arith}
 use borrow.Author.Needs.{needs}
+use Rattle.folds.specs.Found.{found7}
 use Rattle.folds.specs.Below.{prodBelow, prodBelow-zero}
 use Rattle.algebra.specs.Powers.{pow-same}
 use Rattle.algebra.specs.Sums.{prod-mod-more-mod}
@@ -40,7 +41,7 @@ loop-again c =
 pub opened-part-spec : {M : Type 1} → statement M
 opened-part-spec =
     tie.close
-    (tie.spec
+    (found7 (tie.spec
     Inv-loop
     (λ k x c p q made₀ power₀ l₀ made power l. k - l)
     (λ c. search needs)
@@ -48,14 +49,7 @@ opened-part-spec =
       omega arith,
       ap (λ t. t % c .args .group .p) (sym (prodBelow-zero _)),
       ap (λ t. t % c .args .group .q) (sym (ap (λ t. c .args .w .0 * t) (pow-zero (c .args .x)) ∙ mul-one _)),
-    ))
-    (λ c. search needs)
-    (λ c. search needs)
-    (λ c κs. search needs)
-    (λ c κs. search needs)
-    (λ c κs. search needs)
-    (λ c. search needs)
-    (λ c. search needs)
+    ))) (search needs)
     loop-again
     (λ c. let all : c .before .loop .l ≡ c .before .before .args .k = omega arith in
     ap element (rw all at (c .before .loop .inv .1))))

@@ -3,7 +3,7 @@ use mathlib.Core.Path.{_∙_}
 use Prim.Native.Nat.{_+_, _-_}
 use borrow.Author.Needs.{needs}
 use Rattle.folds.specs.Tests.{failed, passed}
-use Rattle.arithmetic.specs.Loops.{Passing, passing-none, passing-more, passing-not, passing-all}
+use Rattle.folds.specs.Loops.{Passing, passing-none, passing-more, passing-not, passing-all}
 use Rattle.checking.specs.Equations.{equation, all-equations}
 use Rattle.checking.proofs.polynomial_check.Statement.{statement}
 use Rattle.checking.proofs.polynomial_check.Tie as tie

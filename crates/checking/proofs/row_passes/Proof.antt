@@ -2,9 +2,10 @@
 -- Assumes nothing.
 use Prim.Native.Nat.{_-_}
 use borrow.Author.Needs.{needs}
+use Rattle.folds.specs.Found.{found3}
 use Rattle.folds.specs.Tests.{failed, passed}
 use Rattle.rules.specs.Dealing.{inGroup}
-use Rattle.arithmetic.specs.Loops.{Passing, passing-none, passing-more, passing-not, passing-all}
+use Rattle.folds.specs.Loops.{Passing, passing-none, passing-more, passing-not, passing-all}
 use Rattle.checking.specs.Equations.{elementAt}
 use Rattle.checking.proofs.row_passes.Statement.{statement}
 use Rattle.checking.proofs.row_passes.Tie as tie
@@ -15,13 +16,7 @@ Inv-loop group k c l₀ l = Passing (λ n. inGroup group (elementAt c n)) k l
 pub row-passes-spec : {M : Type 1} → statement M
 row-passes-spec =
     tie.close
-    (tie.spec
-    Inv-loop
-    (λ group k c l₀ l. k - l)
-    (λ c. passing-none)
-    (λ c. search needs)
-    (λ c. search needs)
-    (λ c κs. search needs)
+    (found3 (tie.spec Inv-loop (λ group k c l₀ l. k - l) (λ c. passing-none)) (search needs)
     (λ c. let turn = c .before .before .before in
     passing-not (turn .before .loop .inv) (turn .loop-test .taken) (failed (c .before .is-element .ensures) (c .if1 .taken)))
     (λ c. search needs)

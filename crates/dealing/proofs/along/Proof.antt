@@ -4,13 +4,14 @@ use mathlib.Core.List.{List}
 use mathlib.Core.Logic.{⊎-elim}
 use Prim.Native.Nat.{ℕ, _*_, _-_, _%_, _^_, _≤_}
 use borrow.Author.Needs.{needs}
+use Rattle.folds.specs.Found.{found8}
 use Rattle.folds.specs.Below.{sumBelow, sumBelow-same}
 use Rattle.rules.specs.declared.Exponent.{Exponent}
 use Rattle.rules.specs.Numbers.{exponent}
 use Rattle.rules.specs.Matrices.{row, coefficient₂}
 use Rattle.rules.specs.Dealing.{valueAt}
 use Rattle.rules.specs.Laws.Matrices.{coefficient-at}
-use Rattle.arithmetic.specs.Loops.{Filling, filling-none, filling-more, filling-all}
+use Rattle.folds.specs.Loops.{Filling, filling-none, filling-more, filling-all}
 use Rattle.dealing.specs.Rows.{alongAt}
 use Rattle.dealing.proofs.along.Statement.{statement}
 use Rattle.dealing.proofs.along.Tie as tie
@@ -47,17 +48,6 @@ pub along-spec : {M : Type 1} → statement M
 unfolding row
 along-spec =
     tie.close
-    (tie.spec
-    Inv-loop
-    μ-loop
-    (λ c. filling-none)
-    (λ c. search needs)
-    (λ c. search needs)
-    (λ c κs. search needs)
-    (λ c κs. search needs)
-    (λ c. search needs)
-    (λ c. search needs)
-    (λ c. search needs)
-    (λ c. search needs)
+    (found8 (tie.spec Inv-loop μ-loop (λ c. filling-none)) (search needs)
     loop-again
     (λ c. filling-all (c .before .loop .inv) (c .loop-test .left)))

@@ -6,6 +6,7 @@ use Prim.Native.Nat.{ℕ, zero, suc, _-_}
 use native.Mathlib.Omega.{arith}
 use lib.ListN.{getD}
 use borrow.Author.Needs.{needs}
+use Rattle.folds.specs.Found.{found3}
 use Rattle.rules.specs.Numbers.{exponent}
 use Rattle.dealing.proofs.coin.Statement.{statement}
 use Rattle.dealing.proofs.coin.Tie as tie
@@ -18,9 +19,5 @@ behind x xs d (suc i) h = let before : suc i - 1 ≡ i = omega arith in rw befor
 pub coin-spec : {M : Type 1} → statement M
 coin-spec =
     tie.close
-    (tie.spec
-    (λ c. rw (c .if1 .taken))
-    (λ c. search needs)
-    (λ c. search needs)
-    (λ c. search needs)
+    (found3 (tie.spec (λ c. rw (c .if1 .taken))) (search needs)
     (λ c. ap exponent (sym (behind _ (c .before .before .args .coins .now) 0 _ (c .before .if1 .left)))))

@@ -5,7 +5,7 @@ use lib.Dec.{ltb}
 use lib.ListN.{length, getD}
 use borrow.Author.Needs.{needs}
 use borrow.Author.Tests.{lt-ltb, le-ltb}
-use Rattle.arithmetic.specs.Loops.{Passing, passing-none, passing-more, passing-not, passing-all}
+use Rattle.folds.specs.Loops.{Passing, passing-none, passing-more, passing-not, passing-all}
 use Rattle.dealing.proofs.coins_below.Statement.{statement}
 use Rattle.dealing.proofs.coins_below.Tie as tie
 

@@ -7,11 +7,12 @@ use native.Mathlib.Nat.{add-assoc}
 use native.Mathlib.Omega.{arith}
 use lib.ListN.{length, getD}
 use borrow.Author.Needs.{needs}
+use Rattle.folds.specs.Found.{found4}
 use Rattle.rules.specs.Numbers.{exponent}
 use Rattle.rules.specs.Matrices.{row, matrix}
 use Rattle.rules.specs.Dealing.{fromCoins}
 use Rattle.rules.specs.Laws.Matrices.{row-same, row-within}
-use Rattle.arithmetic.specs.Loops.{Filling, filling-none, filling-more, filling-all}
+use Rattle.folds.specs.Loops.{Filling, filling-none, filling-more, filling-all}
 use Rattle.dealing.proofs.from_coins.Statement.{statement}
 use Rattle.dealing.proofs.from_coins.Tie as tie
 
@@ -41,18 +42,14 @@ pub from-coins-spec : {M : Type 1} → statement M
 unfolding fromCoins matrix
 from-coins-spec =
     tie.close
-    (tie.spec
+    (found4 (tie.spec
     Inv-loop
     μ-loop
     (λ c. search needs)
     (λ c. filling-none)
     (λ c. omega (arith, within c))
     (λ c. omega (arith, within c))
-    (λ c κs. omega (arith, within c))
-    (λ c. search needs)
-    (λ c. search needs)
-    (λ c. search needs)
-    (λ c. search needs)
+    (λ c κs. omega (arith, within c))) (search needs)
     (λ c. let turn = c .before in
     let a = start turn .args in
     filling-more (turn .before .loop .inv) (turn .loop-test .taken)

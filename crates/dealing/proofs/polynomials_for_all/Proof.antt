@@ -2,10 +2,11 @@
 use Prim.Native.Nat.{_+_, _-_}
 use borrow.Author.Needs.{needs}
 use lib.ListN.{replicate}
+use Rattle.folds.specs.Found.{found7}
 use Rattle.rules.specs.Dealing.{polynomialsOf}
 use Rattle.rules.specs.Matrices.{toBoxes}
 use Rattle.dealing.specs.Rows.{zeroPolynomials}
-use Rattle.arithmetic.specs.Loops.{Filling, filling-none, filling-more, filling-all}
+use Rattle.folds.specs.Loops.{Filling, filling-none, filling-more, filling-all}
 use Rattle.dealing.proofs.polynomials_for_all.Statement.{statement}
 use Rattle.dealing.proofs.polynomials_for_all.Tie as tie
 
@@ -16,18 +17,11 @@ pub polynomials-for-all-spec : {M : Type 1} → statement M
 unfolding toBoxes
 polynomials-for-all-spec =
     tie.close
-    (tie.spec
+    (found7 (tie.spec
     Inv-loop
     (λ q k n f f2 made₀ j₀ made j. n - j)
     (λ c κs. search needs)
-    (λ c. rw (c .zero-polynomials .ensures) filling-none)
-    (λ c. search needs)
-    (λ c. search needs)
-    (λ c κs. search needs)
-    (λ c. search needs)
-    (λ c. search needs)
-    (λ c. search needs)
-    (λ c. search needs)
+    (λ c. rw (c .zero-polynomials .ensures) filling-none)) (search needs)
     (λ c. let turn = c .before in
     filling-more (turn .before .loop .inv) (turn .loop-test .taken) (c .polynomials-for .ensures))
     (λ c. filling-all (c .before .loop .inv) (c .loop-test .left)))

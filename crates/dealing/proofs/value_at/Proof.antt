@@ -4,13 +4,14 @@ use Prim.Native.Nat.{ℕ, _+_, _*_, _-_, _%_, _^_, _≤_}
 use native.Mathlib.Nat.{zero-mod}
 use native.Mathlib.Omega.{arith}
 use borrow.Author.Needs.{needs}
+use Rattle.folds.specs.Found.{found7}
 use Rattle.folds.specs.Below.{sumBelow, sumBelow-zero}
 use Rattle.algebra.specs.Residues.{mul-mod-mod}
 use Rattle.algebra.specs.Sums.{sum-mod-more-mod}
 use Rattle.rules.specs.Numbers.{exponent}
 use Rattle.rules.specs.Matrices.{coefficient}
 use Rattle.rules.specs.Dealing.{valueAt}
-use Rattle.arithmetic.specs.Loops.{first-power, next-power}
+use Rattle.arithmetic.specs.Powers.{first-power, next-power}
 use Rattle.dealing.proofs.value_at.Statement.{statement}
 use Rattle.dealing.proofs.value_at.Tie as tie
 
@@ -36,18 +37,11 @@ pub value-at-spec : {M : Type 1} → statement M
 unfolding valueAt
 value-at-spec =
     tie.close
-    (tie.spec
+    (found7 (tie.spec
     Inv-loop
     μ-loop
     (λ c. search needs)
-    (λ c. (omega arith, sym (ap (λ t. t % c .args .q) (sumBelow-zero _) ∙ zero-mod (c .args .q)), first-power _ _))
-    (λ c. search needs)
-    (λ c. search needs)
-    (λ c κs. search needs)
-    (λ c κs. search needs)
-    (λ c κs. search needs)
-    (λ c. search needs)
-    (λ c. search needs)
+    (λ c. (omega arith, sym (ap (λ t. t % c .args .q) (sumBelow-zero _) ∙ zero-mod (c .args .q)), first-power _ _))) (search needs)
     loop-again
     (λ c. let all : c .before .loop .l ≡ c .before .before .args .k = omega arith in
     ap exponent (rw all at (c .before .loop .inv .1))))

@@ -5,6 +5,7 @@ use Prim.Native.Nat.{_+_, _-_, _≤_}
 use native.Mathlib.Omega.{arith}
 use lib.ListN.{replicate}
 use borrow.Author.Needs.{needs}
+use Rattle.folds.specs.Found.{found5}
 use Rattle.folds.specs.Stores.{stores, stores-zero, stores-turn, stores-left, stores-same}
 use Rattle.rules.specs.Matrices.{zeroFour, toBoxes}
 use Rattle.interpolation.specs.Points.{saidBy}
@@ -58,7 +59,7 @@ returns c =
 pub ready-from-spec : {M : Type 1} → statement M
 ready-from-spec =
     tie.close
-    (tie.spec
+    (found5 (tie.spec
     Inv-loop
     μ-loop
     (λ c κs. search needs)
@@ -66,11 +67,6 @@ ready-from-spec =
     inverses-requires
     (λ c κs. sides c .based)
     (λ c. (omega arith, omega arith, sym (stores-zero _ _)))
-    (λ c κs. sides (c .before .before .before))
-    (λ c. search needs)
-    (λ c. search needs)
-    (λ c. search needs)
-    (λ c. search needs)
-    (λ c. search needs)
+    (λ c κs. sides (c .before .before .before))) (search needs)
     loop-again
     returns)

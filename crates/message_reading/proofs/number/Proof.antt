@@ -3,6 +3,7 @@
 use borrow.Author.Needs.{needs}
 use Prim.Native.Nat.{_+_}
 use native.Mathlib.Omega.{arith}
+use Rattle.folds.specs.Found.{found3}
 use Rattle.rules.specs.Messages.{word}
 use Rattle.message_reading.proofs.number.Statement.{statement}
 use Rattle.message_reading.proofs.number.Tie as tie
@@ -17,12 +18,9 @@ pub number-spec : {M : Type 1} → statement M
 unfolding word
 number-spec =
     tie.close
-    (tie.spec
+    (found3 (tie.spec
     (λ c. search needs)
     (λ c κs. search needs)
-    (λ c. omega (arith, c .before .before .shared-slice-known .given (c .before .before .before .args .p)))
-    (λ c. search needs)
-    (λ c. search needs)
-    (λ c κs. search needs)
+    (λ c. omega (arith, c .before .before .shared-slice-known .given (c .before .before .before .args .p)))) (search needs)
     add-result
     (λ c. rw (c .before .before .wide .ensures, c .wide2 .ensures)))

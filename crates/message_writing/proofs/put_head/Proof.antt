@@ -1,6 +1,7 @@
 -- `message_writing::put_head` meets its contract: a byte, a number, a byte and a number are the header's six bytes.
 -- Assumes nothing.
 use borrow.Author.Needs.{needs}
+use Rattle.folds.specs.Found.{found7}
 use Rattle.rules.specs.Messages.{twoBytes}
 use Rattle.message_writing.specs.Written.{headBytes}
 use Rattle.message_writing.specs.Laws.{puts-then}
@@ -18,12 +19,5 @@ returns c =
 pub put-head-spec : {M : Type 1} → statement M
 put-head-spec =
     tie.close
-    (tie.spec
-    (λ c κs. search needs)
-    (λ c κs. search needs)
-    (λ c. search needs)
-    (λ c κs. search needs)
-    (λ c. search needs)
-    (λ c κs. search needs)
-    (λ c. search needs)
+    (found7 tie.spec (search needs)
     returns)

@@ -5,6 +5,7 @@ use native.Mathlib.Omega.{arith}
 use native.Mathlib.Numerals.{add-one}
 use mathlib.Core.Path.{refl}
 use lib.ListN.{length-set}
+use Rattle.folds.specs.Found.{found4}
 use Rattle.rules.specs.Messages.{twoBytes}
 use Rattle.message_writing.proofs.put_number.Statement.{statement}
 use Rattle.message_writing.proofs.put_number.Tie as tie
@@ -13,11 +14,7 @@ pub put-number-spec : {M : Type 1} → statement M
 unfolding twoBytes
 put-number-spec =
     tie.close
-    (tie.spec
-    (λ c. search needs)
-    (λ c. search needs)
-    (λ c. search needs)
-    (λ c. search needs)
+    (found4 tie.spec (search needs)
     (λ c. simp length-set (omega arith))
     (λ c. search needs)
     (λ c. search needs)

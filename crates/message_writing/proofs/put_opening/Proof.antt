@@ -3,6 +3,7 @@
 use borrow.Author.Needs.{needs}
 use Prim.Native.Nat.{_*_, _≤_}
 use native.Mathlib.Omega.{arith}
+use Rattle.folds.specs.Found.{found3}
 use Rattle.rules.specs.Laws.Matrices.{square-small}
 use Rattle.message_writing.specs.Written.{openingBytes}
 use Rattle.message_writing.specs.Laws.{puts-wide, puts-then}
@@ -23,16 +24,13 @@ returns c =
 pub put-opening-spec : {M : Type 1} → statement M
 put-opening-spec =
     tie.close
-    (tie.spec
+    (found3 (tie.spec
     (λ c. search needs)
     (λ c. omega (arith, small (c .before .before)))
     (λ c. omega (arith, small (c .before .before)))
     (λ c. omega (arith, small (c .before .before)))
     (λ c. omega (arith, small (c .before .before)))
-    (λ c. omega (arith, small (c .before .before .before)))
-    (λ c κs. search needs)
-    (λ c. search needs)
-    (λ c κs. search needs)
+    (λ c. omega (arith, small (c .before .before .before)))) (search needs)
     (λ c κs. omega (arith, small (c .before .before .before .before .before .before .before .before .before .before .before .before)))
     (λ c. search needs)
     returns)

@@ -2,6 +2,7 @@
 -- Assumes nothing.
 use borrow.Author.Needs.{needs}
 use native.Mathlib.Omega.{arith}
+use Rattle.folds.specs.Found.{found6}
 use Rattle.rules.specs.Messages.{polynomialBytes}
 use Rattle.message_writing.specs.Laws.{puts-wide, puts-then}
 use Rattle.message_writing.proofs.put_polynomials.Statement.{statement}
@@ -19,11 +20,5 @@ returns c =
 pub put-polynomials-spec : {M : Type 1} → statement M
 put-polynomials-spec =
     tie.close
-    (tie.spec
-    (λ c. search needs)
-    (λ c κs. search needs)
-    (λ c κs. search needs)
-    (λ c κs. search needs)
-    (λ c κs. search needs)
-    (λ c. search needs)
+    (found6 tie.spec (search needs)
     returns)

@@ -3,6 +3,7 @@
 use borrow.Author.Needs.{needs}
 use native.Mathlib.Omega.{arith}
 use mathlib.Core.Path.{sym, _∙_}
+use Rattle.folds.specs.Found.{found5}
 use Rattle.rules.specs.Messages.{saying, twoBytes, fourBytes}
 use Rattle.message_writing.specs.Laws.{puts-then, matrix-written, said-tag, said-body}
 use Rattle.message_writing.proofs.write_point.Statement.{statement}
@@ -24,10 +25,5 @@ returns c =
 pub write-point-spec : {M : Type 1} → statement M
 write-point-spec =
     tie.close
-    (tie.spec
-    (λ c κs. search needs)
-    (λ c κs. search needs)
-    (λ c κs. search needs)
-    (λ c κs. search needs)
-    (λ c. search needs)
+    (found5 tie.spec (search needs)
     returns)

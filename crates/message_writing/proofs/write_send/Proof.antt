@@ -3,6 +3,7 @@
 use borrow.Author.Needs.{needs}
 use native.Mathlib.Omega.{arith}
 use mathlib.Core.Path.{refl}
+use Rattle.folds.specs.Found.{found5}
 use Rattle.rules.specs.Messages.{send, tagOf, bodyOf}
 use Rattle.message_writing.specs.Laws.{matrix-written}
 use Rattle.message_writing.proofs.write_send.Statement.{statement}
@@ -19,10 +20,5 @@ returns c =
 pub write-send-spec : {M : Type 1} → statement M
 write-send-spec =
     tie.close
-    (tie.spec
-    (λ c. search needs)
-    (λ c. search needs)
-    (λ c κs. search needs)
-    (λ c κs. search needs)
-    (λ c. search needs)
+    (found5 tie.spec (search needs)
     returns)

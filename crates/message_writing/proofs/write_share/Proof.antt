@@ -3,6 +3,7 @@
 use borrow.Author.Needs.{needs}
 use native.Mathlib.Omega.{arith}
 use mathlib.Core.Path.{refl}
+use Rattle.folds.specs.Found.{found3}
 use Rattle.rules.specs.Messages.{recovery, pairBytes, tagOf, bodyOf}
 use Rattle.message_writing.specs.Laws.{puts-then, message-written}
 use Rattle.message_writing.proofs.write_share.Statement.{statement}
@@ -19,8 +20,5 @@ returns c =
 pub write-share-spec : {M : Type 1} → statement M
 write-share-spec =
     tie.close
-    (tie.spec
-    (λ c κs. search needs)
-    (λ c κs. search needs)
-    (λ c. search needs)
+    (found3 tie.spec (search needs)
     returns)

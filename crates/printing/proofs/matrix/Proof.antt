@@ -1,7 +1,7 @@
 -- `matrix` ends, and reads the eight rows alone. Assumes nothing.
 use Prim.Native.Nat.{_≤_, _-_}
 use borrow.Author.Needs.{needs}
-use Rattle.printing.specs.Found.{found11}
+use Rattle.folds.specs.Found.{found11}
 use Rattle.printing.proofs.matrix.Statement.{statement}
 use Rattle.printing.proofs.matrix.Tie as tie
 

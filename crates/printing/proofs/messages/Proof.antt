@@ -1,7 +1,7 @@
 -- `messages` ends, and reads the call's bytes alone; it counts no further than the bytes that it passed. Assumes nothing.
 use Prim.Native.Nat.{_≤_, _-_}
 use borrow.Author.Needs.{needs}
-use Rattle.printing.specs.Found.{found16}
+use Rattle.folds.specs.Found.{found16}
 use Rattle.printing.proofs.messages.Statement.{statement}
 use Rattle.printing.proofs.messages.Tie as tie
 

@@ -5,7 +5,7 @@ use native.Mathlib.Omega.{arith}
 use borrow.Author.Needs.{needs}
 use Rattle.folds.specs.Below.{countBelow-le}
 use Rattle.rules.specs.Record.{marked}
-use Rattle.record_reading.specs.Loops.{Counted, counted-start, counted-more, counted-all}
+use Rattle.folds.specs.Loops.{Counted, counted-start, counted-more, counted-all}
 use Rattle.record_reading.specs.Slots.{countMarks}
 use Rattle.record_reading.proofs.count_marks.Statement.{statement}
 use Rattle.record_reading.proofs.count_marks.Tie as tie

@@ -7,10 +7,11 @@ use mathlib.Core.Logic.{⊎-elim}
 use Prim.Native.Nat.{ℕ, _-_}
 use native.Mathlib.Omega.{arith}
 use borrow.Author.Needs.{needs}
+use Rattle.folds.specs.Found.{found3}
 use Rattle.folds.specs.Below.{countBelow-le}
 use Rattle.rules.specs.declared.Keep.{Keep}
 use Rattle.rules.specs.Record.{isThere, shareAt, sharesKept}
-use Rattle.record_reading.specs.Loops.{Counted, counted-start, counted-more, counted-all}
+use Rattle.folds.specs.Loops.{Counted, counted-start, counted-more, counted-all}
 use Rattle.record_reading.proofs.count_shares.Statement.{statement}
 use Rattle.record_reading.proofs.count_shares.Tie as tie
 
@@ -40,13 +41,7 @@ returns c = counted-all _ 10 _ (c .loop-test .left) (c .before .loop .inv)
 pub count-shares-spec : {M : Type 1} → statement M
 count-shares-spec =
     tie.close
-    (tie.spec
-    Inv-loop
-    μ-loop
-    (λ c. counted-start _ 10)
-    (λ c. search needs)
-    (λ c. search needs)
-    (λ c κs. search needs)
+    (found3 (tie.spec Inv-loop μ-loop (λ c. counted-start _ 10)) (search needs)
     add-n
     (λ c. search needs)
     (λ c. search needs)

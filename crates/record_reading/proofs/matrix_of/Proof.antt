@@ -5,6 +5,7 @@ use Prim.Native.Nat.{_-_, _≤_}
 use native.Mathlib.Omega.{arith}
 use lib.ListN.{length, getD, length-map, List·getD-map}
 use borrow.Author.Needs.{needs}
+use Rattle.folds.specs.Found.{found6}
 use Rattle.folds.specs.Stores.{stores, stores-zero, stores-turn, stores-left, stores-is}
 use Rattle.rules.specs.Record.{noRow, rowAt}
 use Rattle.record_reading.proofs.matrix_of.Statement.{statement}
@@ -28,15 +29,6 @@ returns c =
 pub matrix-of-spec : {M : Type 1} → statement M
 matrix-of-spec =
     tie.close
-    (tie.spec
-    Inv-loop
-    μ-loop
-    (λ c. (omega arith, sym (stores-zero _ _)))
-    (λ c. search needs)
-    (λ c. search needs)
-    (λ c. search needs)
-    (λ c. search needs)
-    (λ c. search needs)
-    (λ c. search needs)
+    (found6 (tie.spec Inv-loop μ-loop (λ c. (omega arith, sym (stores-zero _ _)))) (search needs)
     (λ c. (omega arith, stores-turn _ _ _ (c .before .before .before .loop .inv .1) refl))
     returns)

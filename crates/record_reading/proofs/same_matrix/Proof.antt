@@ -5,11 +5,12 @@ use mathlib.Core.Bool.{true}
 use Prim.Native.Nat.{_-_}
 use lib.Dec.{eqb}
 use borrow.Author.Needs.{needs}
+use Rattle.folds.specs.Found.{found5}
 use Rattle.folds.specs.Tests.{failed, passed}
 use Rattle.folds.specs.Below.{allBelow, allBelow-zero, allBelow-more}
 use Rattle.rules.specs.Matrices.{entry}
 use Rattle.rules.specs.Record.{sameMatrix}
-use Rattle.record_reading.specs.Loops.{all-fails, all-passed}
+use Rattle.folds.specs.Loops.{all-fails, all-passed}
 use Rattle.record_reading.specs.Slots.{sameRow}
 use Rattle.record_reading.proofs.same_matrix.Statement.{statement}
 use Rattle.record_reading.proofs.same_matrix.Tie as tie
@@ -37,15 +38,7 @@ returns-2 c = all-passed _ _ _ (c .loop-test .left) (c .before .loop .inv)
 pub same-matrix-spec : {M : Type 1} → statement M
 same-matrix-spec =
     tie.close
-    (tie.spec
-    Inv-loop
-    μ-loop
-    (λ c. allBelow-zero _)
-    (λ c. search needs)
-    (λ c. search needs)
-    (λ c. search needs)
-    (λ c. search needs)
-    (λ c κs. search needs)
+    (found5 (tie.spec Inv-loop μ-loop (λ c. allBelow-zero _)) (search needs)
     returns
     (λ c. search needs)
     (λ c. search needs)

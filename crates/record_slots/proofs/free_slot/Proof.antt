@@ -5,7 +5,7 @@ use mathlib.Core.Bool.{not}
 use Prim.Native.Nat.{_-_}
 use native.Mathlib.Omega.{arith}
 use borrow.Author.Needs.{needs}
-use Rattle.record_reading.specs.Loops.{NotYet, first-here, first-more, first-none}
+use Rattle.folds.specs.Loops.{NotYet, first-here, first-more, first-none}
 use Rattle.record_reading.specs.Slots.{slotIn}
 use Rattle.record_slots.specs.Found.{freeIn}
 use Rattle.record_slots.proofs.free_slot.Statement.{statement}

@@ -4,7 +4,7 @@ use mathlib.Core.Path.{refl, sym, _∙_}
 use Prim.Native.Nat.{_-_}
 use native.Mathlib.Omega.{arith}
 use borrow.Author.Needs.{needs}
-use Rattle.record_reading.specs.Loops.{NotYet, first-here, first-more, first-none}
+use Rattle.folds.specs.Loops.{NotYet, first-here, first-more, first-none}
 use Rattle.record_reading.specs.Slots.{slotIn, hasMatrix}
 use Rattle.record_slots.specs.Found.{ownIn}
 use Rattle.record_slots.proofs.own_slot.Statement.{statement}

@@ -6,7 +6,7 @@
 use mathlib.Core.Path.{_≡_, refl, sym, ap, _∙_, subst}
 use mathlib.Core.Bool.{Bool, true, false}
 use mathlib.Core.List.{List, [], _∷_}
-use mathlib.Core.Logic.{_↔_, _≢_, _⊎_, inl, inr, ⊎-elim}
+use mathlib.Core.Logic.{_↔_, _≢_, ⊎-elim}
 use Prim.Native.Nat.{ℕ, _-_, _≤_, _<_}
 use native.Mathlib.Omega.{arith}
 use lib.Dec.{eqb, leb}
@@ -14,7 +14,7 @@ use native.Mathlib.Decide.{ℕ-discrete}
 use lib.ListN.{length, getD, set}
 use lib.Seq.{getD-set-same, getD-set-other}
 use borrow.Author.Tests.{eqb-true, ne-eqb, le-leb, leb-true, eq-eqb}
-use Rattle.folds.specs.Tests.{_and_, _or_, pick, pick-true, pick-false, and-left, and-right, and-intro, or-cases, eq-same, decide}
+use Rattle.folds.specs.Tests.{_and_, pick, pick-true, pick-false, and-left, and-right, and-intro, eq-same, decide, true≢false}
 use Rattle.rules.specs.declared.Marks.{Marks}
 use Rattle.rules.specs.declared.Record.{Record}
 use Rattle.rules.specs.declared.SetUp.{SetUp}
@@ -26,7 +26,7 @@ use Rattle.rules.specs.Record.{noMarks, marked, heardFor, zeroRecord}
 use Rattle.rules.specs.Steps.{Step, mark, heard}
 use Rattle.rules.specs.Laws.Shape.{Shaped}
 use Rattle.rules.specs.Answers.{Refusal, firstRow, firstOf, Done, done, noPair, accepted, refused, outcomeOf, answered, setUpRows, setUp, SetsUp, callRows, ownDealRows, dealRows, deal, Deals, ownRecoverRows, recoverRows, recover, Recovers, formRows, turnRows, hearingRows, earlyRows, deliverRows, refusalHeard, deliver, Delivers, DeliversLent}
-use Rattle.rules.specs.Laws.Table.{row, noneBefore, none, lacks, distinct, numbers, first-row, first-none, marksBy, first-marks}
+use Rattle.rules.specs.Laws.Table.{row, noneBefore, none, lacks, distinct, numbers, first-row, first-none, marksBy, first-marks, among}
 
 -- ---- (a) and (c): which number a call gives
 
@@ -144,33 +144,27 @@ unfolding recover answered
 recover-refused x buffer z = answering _ _ _ _ (renumber _ _ _ z)
 
 -- "8, 9 and 10 on tags 1, 2, 3 mark that sender heard for that tag"
+abbrev pub atHearing : List ℕ
+atHearing = 8 ∷ 9 ∷ 10 ∷ []
+
 abbrev pub Heard : ℕ → ℕ → Type 0
-Heard n tag = ((n ≡ 8) ⊎ ((n ≡ 9) ⊎ (n ≡ 10))) × (tag ≤ 3)
+Heard n tag = (among atHearing n ≡ true) × (tag ≤ 3)
 
 abbrev toHear : ℕ → ℕ → Bool
-toHear n tag = (eqb n 8 or eqb n 9 or eqb n 10) and hasMatrix tag
+toHear n tag = among atHearing n and hasMatrix tag
 
 heard-test : (n tag : ℕ) → Heard n tag → toHear n tag ≡ true
 unfolding hasMatrix
-heard-test n tag h = go (h .0) (le-leb tag 3 (h .1))
-  where
-    go : (n ≡ 8) ⊎ ((n ≡ 9) ⊎ (n ≡ 10)) → leb tag 3 ≡ true → toHear n tag ≡ true
-    go (inl e) l = rw (e, l)
-    go (inr (inl e)) l = rw (e, l)
-    go (inr (inr e)) l = rw (e, l)
+heard-test n tag h = and-intro _ _ (h .0) (le-leb tag 3 (h .1))
 
 test-heard : (n tag : ℕ) → toHear n tag ≡ true → Heard n tag
 unfolding hasMatrix
-test-heard n tag t = (
-  ⊎-elim (λ e. inl (eqb-true n 8 e)) (λ t′. inr (⊎-elim (λ e. inl (eqb-true n 9 e)) (λ e. inr (eqb-true n 10 e)) (or-cases (eqb n 9) (eqb n 10) t′)))
-      (or-cases (eqb n 8) (eqb n 9 or eqb n 10) (and-left _ (leb tag 3) t)),
-  leb-true tag 3 (and-right (eqb n 8 or eqb n 9 or eqb n 10) (leb tag 3) t),
-)
+test-heard n tag t = (and-left _ (leb tag 3) t, leb-true tag 3 (and-right (among atHearing n) (leb tag 3) t))
 
 -- The rows of a delivery that mark the sender heard.
 pub deliver-marks : (x : Record) (sender : ℕ) (bytes : List ℕ) (lent : ℕ)
     → firstRow (deliverRows x sender bytes lent) .marks ≡ toHear (firstOf (deliverRows x sender bytes lent)) (tagIn bytes)
-unfolding deliverRows earlyRows callRows formRows turnRows hearingRows marksBy
+unfolding deliverRows earlyRows callRows formRows turnRows hearingRows marksBy lacks
 deliver-marks x sender bytes lent =
     first-marks (λ n. toHear n (tagIn bytes)) (deliverRows x sender bytes lent) refl
     (and-intro _ _ (eq-same (hasMatrix (tagIn bytes)) _ refl)
@@ -202,7 +196,7 @@ deliver-refused x sender bytes buffer z h =
 -- or marks its sender heard for its tag
 pub deliver-heard : (x : Record) (sender : ℕ) (bytes buffer : List ℕ) → Heard (deliver x sender bytes buffer .outcome .answer .no) (tagIn bytes)
     → Refused (heard x (tagIn bytes) (sender - 1)) buffer (deliver x sender bytes buffer)
-unfolding deliver answered refusalHeard
+unfolding deliver answered refusalHeard lacks
 deliver-heard x sender bytes buffer h =
     let n = firstOf (deliverRows x sender bytes (length buffer)) in
     let h′ : Heard n (tagIn bytes) = subst (λ m. Heard m (tagIn bytes)) (outcome-number n _ _) h in
@@ -210,10 +204,8 @@ deliver-heard x sender bytes buffer h =
     deliver-leaves n m _ x _ sender bytes buffer (λ e. nonzero (h′ .0) e)
     (pick-true m (heard x (tagIn bytes) (sender - 1)) x (deliver-marks x sender bytes (length buffer) ∙ heard-test n (tagIn bytes) h′))
   where
-    nonzero : {n : ℕ} → (n ≡ 8) ⊎ ((n ≡ 9) ⊎ (n ≡ 10)) → n ≡ 0 → ⊥
-    nonzero (inl e) z = omega arith
-    nonzero (inr (inl e)) z = omega arith
-    nonzero (inr (inr e)) z = omega arith
+    nonzero : {n : ℕ} → among atHearing n ≡ true → n ≡ 0 → ⊥
+    nonzero h z = true≢false (sym (rw z at h))
 
 -- a record is as it came but for one sender's mark for one tag
 pub record OneMark (x y : Record) (tag m : ℕ) : Type 0 where

@@ -30,10 +30,13 @@ unfoldable pub none : List Refusal → Bool
 none [] = true
 none (y ∷ ys) = not (y .holds) and none ys
 
--- a number does not occur, and the numbers of a table are different and not 0
+-- a number does not occur, or does, and the numbers of a table are different and not 0
 unfoldable pub lacks : ℕ → List ℕ → Bool
 lacks x [] = true
 lacks x (y ∷ ys) = not (eqb y x) and lacks x ys
+
+abbrev pub among : List ℕ → ℕ → Bool
+among xs x = not (lacks x xs)
 
 unfoldable pub distinct : List ℕ → Bool
 distinct [] = true

@@ -3,6 +3,7 @@ use mathlib.Core.Path.{_≡_, sym, ap, _∙_}
 use Prim.Native.Nat.{_+_, _*_, _-_, _≤_}
 use native.Mathlib.Omega.{arith}
 use borrow.Author.Needs.{needs}
+use Rattle.folds.specs.Found.{found4}
 use Rattle.folds.specs.Stores.{stores, stores-zero, stores-turn, stores-left}
 use Rattle.rules.specs.Numbers.{element}
 use Rattle.rules.specs.Matrices.{row}
@@ -40,7 +41,7 @@ returns c = stores-left _ _ _ _ (c .before .loop .inv .0) (c .loop-test .left) (
 pub matrix-row-spec : {M : Type 1} → statement M
 matrix-row-spec =
     tie.close
-    (tie.spec
+    (found4 (tie.spec
     Inv-loop
     μ-loop
     (λ c κs. search needs)
@@ -48,7 +49,6 @@ matrix-row-spec =
     (λ c. omega (arith, room c))
     (λ c. omega (arith, room c))
     (λ c. omega (arith, room c))
-    (λ c κs. (rw (c .before .before .matrix-place .ensures) (start c .pre .0 .stand), omega (arith, room c)))
-    (λ c. search needs) (λ c. search needs) (λ c. search needs) (λ c. search needs)
+    (λ c κs. (rw (c .before .before .matrix-place .ensures) (start c .pre .0 .stand), omega (arith, room c)))) (search needs)
     loop-again
     returns)

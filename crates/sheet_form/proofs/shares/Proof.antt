@@ -4,6 +4,7 @@ use mathlib.Core.Path.{_≡_, sym, ap, _∙_}
 use Prim.Native.Nat.{_-_, _≤_}
 use native.Mathlib.Omega.{arith}
 use borrow.Author.Needs.{needs}
+use Rattle.folds.specs.Found.{found4}
 use Rattle.folds.specs.Stores.{stores, stores-zero, stores-turn, stores-left}
 use Rattle.rules.specs.Sheet.{boxesPlace, nextLine, linePlace, saidAt, sheetShares, boxLineKeeps}
 use Rattle.sheet_form.specs.Laws.{whole-entries, whole-line, linePlace-zero, linePlace-more}
@@ -39,12 +40,11 @@ returns c = stores-left _ _ _ _ (c .before .loop .inv .0) (c .loop-test .left) (
 pub shares-spec : {M : Type 1} → statement M
 shares-spec =
     tie.close
-    (tie.spec
+    (found4 (tie.spec
     Inv-loop
     μ-loop
     (λ c κs. whole-entries _ _ _ (c .before .pre))
     (λ c. (omega arith, c .boxes-place .ensures ∙ sym (linePlace-zero _ _), sym (stores-zero _ _)))
-    line-at-requires
-    (λ c. search needs) (λ c. search needs) (λ c. search needs) (λ c. search needs)
+    line-at-requires) (search needs)
     loop-again
     returns)

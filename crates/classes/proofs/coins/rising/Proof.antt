@@ -1,7 +1,7 @@
 -- `rising` ends at coin 127; a coin is below 1019. Assumes nothing.
 use Prim.Native.Nat.{_≤_, _<_, _-_}
 use borrow.Author.Needs.{needs}
-use Rattle.printing.specs.Found.{found8}
+use Rattle.folds.specs.Found.{found8}
 use Rattle.classes.proofs.coins.rising.Statement.{statement}
 use Rattle.classes.proofs.coins.rising.Tie as tie
 

@@ -3,7 +3,7 @@ use Prim.Native.Nat.{_*_, _≤_}
 use native.Mathlib.Nat.{mul-le-mul}
 use native.Mathlib.Omega.{arith}
 use borrow.Author.Needs.{needs}
-use Rattle.printing.specs.Found.{found3}
+use Rattle.folds.specs.Found.{found3}
 use Rattle.classes.proofs.room.message.Statement.{statement}
 use Rattle.classes.proofs.room.message.Tie as tie
 

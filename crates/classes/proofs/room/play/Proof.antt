@@ -2,7 +2,7 @@
 use Prim.Native.Nat.{_≤_, _+_, _*_, _-_}
 use lib.ListN.{length}
 use borrow.Author.Needs.{needs}
-use Rattle.printing.specs.Found.{found10}
+use Rattle.folds.specs.Found.{found10}
 use Rattle.classes.proofs.room.play.Statement.{statement}
 use Rattle.classes.proofs.room.play.Tie as tie
 

@@ -3,7 +3,7 @@ use mathlib.Core.Path.{_≡_}
 use Prim.Native.Nat.{_≤_, _-_}
 use lib.ListN.{length}
 use borrow.Author.Needs.{needs}
-use Rattle.printing.specs.Found.{found8}
+use Rattle.folds.specs.Found.{found8}
 use Rattle.classes.proofs.twenty.classes.Statement.{statement}
 use Rattle.classes.proofs.twenty.classes.Tie as tie
 

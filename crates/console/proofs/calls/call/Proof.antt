@@ -1,6 +1,6 @@
 -- `call` is safe: the coins and the bytes that a line says stand in their buffers. Assumes nothing.
 use borrow.Author.Needs.{needs}
-use Rattle.printing.specs.Found.{found5, found6, found7}
+use Rattle.folds.specs.Found.{found5, found6, found7}
 use Rattle.console.specs.Lines.{Standing}
 use Rattle.console.proofs.calls.call.Statement.{statement}
 use Rattle.console.proofs.calls.call.Tie as tie

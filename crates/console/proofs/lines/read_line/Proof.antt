@@ -3,7 +3,7 @@ use mathlib.Core.Path.{_≡_}
 use Prim.Native.Nat.{_≤_, _-_}
 use lib.ListN.{length, length-set}
 use borrow.Author.Needs.{needs}
-use Rattle.printing.specs.Found.{found5, found10}
+use Rattle.folds.specs.Found.{found5, found10}
 use Rattle.console.proofs.lines.read_line.Statement.{statement}
 use Rattle.console.proofs.lines.read_line.Tie as tie
 

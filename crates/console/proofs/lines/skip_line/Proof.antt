@@ -1,6 +1,6 @@
 -- `skip_line` ends: the count falls. Assumes nothing.
 use borrow.Author.Needs.{needs}
-use Rattle.printing.specs.Found.{found10}
+use Rattle.folds.specs.Found.{found10}
 use Rattle.console.proofs.lines.skip_line.Statement.{statement}
 use Rattle.console.proofs.lines.skip_line.Tie as tie
 

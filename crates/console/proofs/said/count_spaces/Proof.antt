@@ -4,7 +4,7 @@ use Prim.Native.Nat.{_≤_, _-_}
 use native.Mathlib.Omega.{arith}
 use lib.ListN.{length}
 use borrow.Author.Needs.{needs}
-use Rattle.printing.specs.Found.{found5}
+use Rattle.folds.specs.Found.{found5}
 use Rattle.console.proofs.said.count_spaces.Statement.{statement}
 use Rattle.console.proofs.said.count_spaces.Tie as tie
 

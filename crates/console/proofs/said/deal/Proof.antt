@@ -2,7 +2,7 @@
 use mathlib.Core.Path.{sym, _∙_}
 use borrow.Author.Needs.{needs}
 use borrow.Author.Tests.{not-false}
-use Rattle.printing.specs.Found.{found3, found5}
+use Rattle.folds.specs.Found.{found3, found5}
 use Rattle.console.proofs.said.deal.Statement.{statement}
 use Rattle.console.proofs.said.deal.Tie as tie
 

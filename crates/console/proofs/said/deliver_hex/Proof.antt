@@ -2,7 +2,7 @@
 use mathlib.Core.Path.{sym, _∙_}
 use borrow.Author.Needs.{needs}
 use borrow.Author.Tests.{not-false}
-use Rattle.printing.specs.Found.{found2, found7}
+use Rattle.folds.specs.Found.{found2, found7}
 use Rattle.console.proofs.said.deliver_hex.Statement.{statement}
 use Rattle.console.proofs.said.deliver_hex.Tie as tie
 

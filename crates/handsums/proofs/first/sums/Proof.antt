@@ -1,7 +1,7 @@
 -- `sums` works on a C that has passed refusal 8. Assumes nothing.
 use mathlib.Core.Path.{sym, _∙_}
 use borrow.Author.Needs.{needs}
-use Rattle.printing.specs.Found.{found3, found6}
+use Rattle.folds.specs.Found.{found3, found6}
 use Rattle.handsums.proofs.first.sums.Statement.{statement}
 use Rattle.handsums.proofs.first.sums.Tie as tie
 

@@ -1,7 +1,7 @@
 -- `coefficients` ends, and reads below k alone. Assumes nothing.
 use Prim.Native.Nat.{_≤_, _-_}
 use borrow.Author.Needs.{needs}
-use Rattle.printing.specs.Found.{found9}
+use Rattle.folds.specs.Found.{found9}
 use Rattle.handsums.proofs.lines.coefficients.Statement.{statement}
 use Rattle.handsums.proofs.lines.coefficients.Tie as tie
 

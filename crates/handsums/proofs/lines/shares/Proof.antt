@@ -1,7 +1,7 @@
 -- `shares` ends at box n. Assumes nothing.
 use Prim.Native.Nat.{_≤_, _-_}
 use borrow.Author.Needs.{needs}
-use Rattle.printing.specs.Found.{found9}
+use Rattle.folds.specs.Found.{found9}
 use Rattle.handsums.proofs.lines.shares.Statement.{statement}
 use Rattle.handsums.proofs.lines.shares.Tie as tie
 

@@ -8,6 +8,7 @@ use native.Mathlib.Omega.{arith}
 use lib.Dec.{eqb}
 use borrow.Author.Needs.{needs}
 use borrow.Author.Tests.{eq-eqb, ne-eqb}
+use Rattle.folds.specs.Found.{found3}
 use Rattle.folds.specs.Tests.{pick}
 use Rattle.folds.specs.Below.{prodBelow, prodBelow-zero, prodBelow-more}
 use Rattle.algebra.specs.Sums.{prod-mod-more-mod}
@@ -57,16 +58,13 @@ returns c =
 pub others-at-spec : {M : Type 1} → statement M
 others-at-spec =
     tie.close
-    (tie.spec
+    (found3 (tie.spec
     Inv-loop
     μ-loop
     (λ c. c .pre .some)
     (λ c. (omega arith, ap (λ t. t % c .args .q) (sym (prodBelow-zero _))))
     (λ c. search needs)
     (λ c. search needs)
-    (λ c κs. (search needs, c .before .before .before .before .pre .low _ (c .before .before .loop-test .taken)))
-    (λ c κs. search needs)
-    (λ c. search needs)
-    (λ c. search needs)
+    (λ c κs. (search needs, c .before .before .before .before .pre .low _ (c .before .before .loop-test .taken)))) (search needs)
     loop-again
     returns)

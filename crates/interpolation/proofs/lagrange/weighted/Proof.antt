@@ -4,6 +4,7 @@ use mathlib.Core.Path.{_≡_, sym, ap}
 use Prim.Native.Nat.{_-_, _*_, _%_, _≤_}
 use native.Mathlib.Omega.{arith}
 use borrow.Author.Needs.{needs}
+use Rattle.folds.specs.Found.{found8}
 use Rattle.folds.specs.Below.{sumBelow, sumBelow-zero}
 use Rattle.algebra.specs.Sums.{sum-mod-more-mod}
 use Rattle.rules.specs.Numbers.{exponent}
@@ -33,18 +34,6 @@ returns c =
 pub weighted-spec : {M : Type 1} → statement M
 weighted-spec =
     tie.close
-    (tie.spec
-    Inv-loop
-    μ-loop
-    (λ c. search needs)
-    (λ c. (omega arith, ap (λ t. t % c .args .q) (sym (sumBelow-zero _))))
-    (λ c. search needs)
-    (λ c. search needs)
-    (λ c. search needs)
-    (λ c. search needs)
-    (λ c κs. search needs)
-    (λ c κs. search needs)
-    (λ c. search needs)
-    (λ c. search needs)
+    (found8 (tie.spec Inv-loop μ-loop (λ c. search needs) (λ c. (omega arith, ap (λ t. t % c .args .q) (sym (sumBelow-zero _))))) (search needs)
     loop-again
     returns)

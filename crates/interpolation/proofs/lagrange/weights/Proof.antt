@@ -5,6 +5,7 @@ use Prim.Native.Nat.{ℕ, _-_, _≤_, _<_}
 use native.Mathlib.Omega.{arith}
 use lib.ListN.{replicate}
 use borrow.Author.Needs.{needs}
+use Rattle.folds.specs.Found.{found7}
 use Rattle.folds.specs.Stores.{stores, stores-zero, stores-turn, stores-left}
 use Rattle.rules.specs.declared.Exponent.{Exponent}
 use Rattle.rules.specs.Numbers.{exponent}
@@ -43,17 +44,6 @@ returns c = let loop = c .before .loop in stores-left _ _ (loop .i) _ (loop .inv
 pub weights-spec : {M : Type 1} → statement M
 weights-spec =
     tie.close
-    (tie.spec
-    Inv-loop
-    μ-loop
-    (λ c. (omega arith, sym (stores-zero _ _)))
-    (λ c κs. c .before .before .pre .fit)
-    (λ c. search needs)
-    (λ c. search needs)
-    (λ c κs. search needs)
-    (λ c. search needs)
-    (λ c. search needs)
-    (λ c. search needs)
-    (λ c. search needs)
+    (found7 (tie.spec Inv-loop μ-loop (λ c. (omega arith, sym (stores-zero _ _))) (λ c κs. c .before .before .pre .fit)) (search needs)
     loop-again
     returns)

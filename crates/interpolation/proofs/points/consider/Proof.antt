@@ -3,6 +3,7 @@ use Prim.Native.Nat.{_≤_}
 use native.Mathlib.Omega.{arith}
 use borrow.Author.Needs.{needs}
 use borrow.Author.Tests.{le-leb, lt-leb}
+use Rattle.folds.specs.Found.{found3}
 use Rattle.interpolation.specs.Points.{considered}
 use Rattle.interpolation.proofs.points.consider.Statement.{statement}
 use Rattle.interpolation.proofs.points.consider.Tie as tie
@@ -23,4 +24,6 @@ returns-3 c = rw (lt-leb _ _ (c .before .before .before .before .if1 .left), c .
 
 pub consider-spec : {M : Type 1} → statement M
 consider-spec =
-    tie.close (tie.spec returns (λ c. search needs) (λ c. search needs) (λ c κs. search needs) returns-2 returns-3)
+    tie.close (found3 (tie.spec returns) (search needs)
+    returns-2
+    returns-3)

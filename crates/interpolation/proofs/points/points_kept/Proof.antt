@@ -6,6 +6,7 @@ use Prim.Native.Nat.{ℕ, _+_, _-_, _≤_}
 use native.Mathlib.Omega.{arith}
 use lib.ListN.{getD, take}
 use borrow.Author.Needs.{needs}
+use Rattle.folds.specs.Found.{found6}
 use Rattle.folds.specs.Runs.{gather, gather-zero, gather-more}
 use Rattle.rules.specs.declared.Keep.{Keep}
 use Rattle.rules.specs.declared.Pair.{Pair}
@@ -50,16 +51,6 @@ returns c =
 pub points-kept-spec : {M : Type 1} → statement M
 points-kept-spec =
     tie.close
-    (tie.spec
-    Inv-loop
-    μ-loop
-    (λ c κs. search needs)
-    loop-holds
-    (λ c. search needs)
-    (λ c. search needs)
-    (λ c κs. search needs)
-    (λ c. search needs)
-    (λ c. search needs)
-    (λ c. search needs)
+    (found6 (tie.spec Inv-loop μ-loop (λ c κs. search needs) loop-holds) (search needs)
     loop-again
     returns)

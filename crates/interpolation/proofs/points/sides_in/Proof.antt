@@ -5,6 +5,7 @@ use Prim.Native.Nat.{_-_, _≤_}
 use native.Mathlib.Omega.{arith}
 use lib.ListN.{length, getD, length-map, List·getD-map}
 use borrow.Author.Needs.{needs}
+use Rattle.folds.specs.Found.{found7}
 use Rattle.folds.specs.Stores.{stores, stores-zero, stores-turn, stores-left, stores-is}
 use Rattle.rules.specs.Record.{silent, nothing}
 use Rattle.interpolation.specs.Points.{sideKept}
@@ -29,16 +30,6 @@ returns c =
 pub sides-in-spec : {M : Type 1} → statement M
 sides-in-spec =
     tie.close
-    (tie.spec
-    Inv-loop
-    μ-loop
-    (λ c. (omega arith, sym (stores-zero _ _)))
-    (λ c. search needs)
-    (λ c. search needs)
-    (λ c κs. search needs)
-    (λ c. search needs)
-    (λ c. search needs)
-    (λ c. search needs)
-    (λ c. search needs)
+    (found7 (tie.spec Inv-loop μ-loop (λ c. (omega arith, sym (stores-zero _ _)))) (search needs)
     (λ c. (omega arith, stores-turn _ _ _ (c .before .before .before .loop .inv .1) (c .side-in .ensures)))
     returns)

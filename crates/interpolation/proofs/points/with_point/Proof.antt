@@ -1,6 +1,7 @@
 -- `with_point` is one more point behind those there are. Assumes nothing.
 use mathlib.Core.Path.{refl}
 use borrow.Author.Needs.{needs}
+use Rattle.folds.specs.Found.{found7}
 use Rattle.interpolation.specs.Points.{withPoint}
 use Rattle.interpolation.proofs.points.with_point.Statement.{statement}
 use Rattle.interpolation.proofs.points.with_point.Tie as tie
@@ -12,12 +13,5 @@ returns c = refl
 pub with-point-spec : {M : Type 1} → statement M
 with-point-spec =
     tie.close
-    (tie.spec
-    (λ c. search needs)
-    (λ c. search needs)
-    (λ c. search needs)
-    (λ c. search needs)
-    (λ c. search needs)
-    (λ c. search needs)
-    (λ c. search needs)
+    (found7 tie.spec (search needs)
     returns)

@@ -1,7 +1,7 @@
 -- `places` ends, and reads the twenty places alone. Assumes nothing.
 use Prim.Native.Nat.{_≤_, _-_}
 use borrow.Author.Needs.{needs}
-use Rattle.printing.specs.Found.{found8}
+use Rattle.folds.specs.Found.{found8}
 use Rattle.printing.proofs.showing.places.Statement.{statement}
 use Rattle.printing.proofs.showing.places.Tie as tie
 

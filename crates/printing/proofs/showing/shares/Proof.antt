@@ -1,7 +1,7 @@
 -- `shares` ends, and reads the ten shares alone. Assumes nothing.
 use Prim.Native.Nat.{_≤_, _-_}
 use borrow.Author.Needs.{needs}
-use Rattle.printing.specs.Found.{found3, found16}
+use Rattle.folds.specs.Found.{found3, found16}
 use Rattle.printing.proofs.showing.shares.Statement.{statement}
 use Rattle.printing.proofs.showing.shares.Tie as tie
 

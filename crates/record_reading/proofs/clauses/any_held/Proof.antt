@@ -3,9 +3,10 @@ use mathlib.Core.Path.{_≡_, sym, _∙_}
 use mathlib.Core.Bool.{false}
 use Prim.Native.Nat.{_-_}
 use borrow.Author.Needs.{needs}
+use Rattle.folds.specs.Found.{found3}
 use Rattle.folds.specs.Below.{anyBelow, anyBelow-zero, anyBelow-more}
 use Rattle.rules.specs.Record.{held}
-use Rattle.record_reading.specs.Loops.{any-found, any-none}
+use Rattle.folds.specs.Loops.{any-found, any-none}
 use Rattle.record_reading.specs.Slots.{anyHeld}
 use Rattle.record_reading.proofs.clauses.any_held.Statement.{statement}
 use Rattle.record_reading.proofs.clauses.any_held.Tie as tie
@@ -30,13 +31,7 @@ returns-2 c = any-none _ _ _ (c .loop-test .left) (c .before .loop .inv)
 pub any-held-spec : {M : Type 1} → statement M
 any-held-spec =
     tie.close
-    (tie.spec
-    Inv-loop
-    μ-loop
-    (λ c. anyBelow-zero _)
-    (λ c. search needs)
-    (λ c. search needs)
-    (λ c κs. search needs)
+    (found3 (tie.spec Inv-loop μ-loop (λ c. anyBelow-zero _)) (search needs)
     returns
     (λ c. search needs)
     (λ c. search needs)

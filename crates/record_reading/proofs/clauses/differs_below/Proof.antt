@@ -5,13 +5,14 @@ use mathlib.Core.Bool.{Bool, true, not}
 use mathlib.Core.List.{List}
 use Prim.Native.Nat.{ℕ, _-_}
 use borrow.Author.Needs.{needs}
+use Rattle.folds.specs.Found.{found3}
 use Rattle.folds.specs.Tests.{_and_}
 use Rattle.folds.specs.Below.{allBelow, allBelow-zero, allBelow-more}
 use Rattle.rules.specs.declared.Element.{Element}
 use Rattle.rules.specs.declared.Slot.{Slot}
 use Rattle.rules.specs.Record.{matrixOf, sameMatrix}
 use Rattle.rules.specs.Laws.Sound.{agree-comm}
-use Rattle.record_reading.specs.Loops.{all-fails, all-passed}
+use Rattle.folds.specs.Loops.{all-fails, all-passed}
 use Rattle.record_reading.specs.Slots.{slotIn, hasMatrix, differFrom}
 use Rattle.record_reading.proofs.clauses.differs_below.Statement.{statement}
 use Rattle.record_reading.proofs.clauses.differs_below.Tie as tie
@@ -58,16 +59,7 @@ returns-2 c = all-passed _ _ _ (c .loop-test .left) (c .before .loop .inv)
 pub differs-below-spec : {M : Type 1} → statement M
 differs-below-spec =
     tie.close
-    (tie.spec
-    Inv-loop
-    μ-loop
-    (λ c. search needs)
-    (λ c. search needs)
-    (λ c κs. search needs)
-    (λ c. allBelow-zero _)
-    (λ c. search needs)
-    (λ c. search needs)
-    (λ c κs. search needs)
+    (found3 (found3 (tie.spec Inv-loop μ-loop) (search needs) (λ c. allBelow-zero _)) (search needs)
     returns
     (λ c. search needs)
     (λ c. search needs)

@@ -10,6 +10,7 @@ use lib.Dec.{eqb, ltb}
 use lib.ListN.{getD, List·getD-map}
 use borrow.Author.Needs.{needs}
 use borrow.Author.Tests.{le-ltb}
+use Rattle.folds.specs.Found.{found3}
 use Rattle.folds.specs.Tests.{_and_, _or_, pick, failed, passed}
 use Rattle.folds.specs.Below.{allBelow, allBelow-zero, allBelow-more, allBelow-same}
 use Rattle.rules.specs.declared.Element.{Element}
@@ -17,7 +18,7 @@ use Rattle.rules.specs.declared.Slot.{Slot}
 use Rattle.rules.specs.Numbers.{element}
 use Rattle.rules.specs.Matrices.{entry}
 use Rattle.rules.specs.Record.{noRow, rowAt, matrixOf, entriesZero}
-use Rattle.record_reading.specs.Loops.{all-fails, all-passed}
+use Rattle.folds.specs.Loops.{all-fails, all-passed}
 use Rattle.record_reading.specs.Slots.{zeroFrom}
 use Rattle.record_reading.proofs.clauses.entries_zero.Statement.{statement}
 use Rattle.record_reading.proofs.clauses.entries_zero.Tie as tie
@@ -78,13 +79,7 @@ returns-2 c = all-passed _ _ _ (c .loop-test .left) (c .before .loop .inv)
 pub entries-zero-spec : {M : Type 1} → statement M
 entries-zero-spec =
     tie.close
-    (tie.spec
-    Inv-loop
-    μ-loop
-    (λ c. allBelow-zero _)
-    (λ c. search needs)
-    (λ c. search needs)
-    (λ c κs. search needs)
+    (found3 (tie.spec Inv-loop μ-loop (λ c. allBelow-zero _)) (search needs)
     returns
     (λ c. search needs)
     (λ c. search needs)

@@ -9,7 +9,7 @@ use borrow.Author.Needs.{needs}
 use Rattle.folds.specs.Tests.{failed, passed}
 use Rattle.folds.specs.Below.{allBelow, allBelow-zero, allBelow-more, allBelow-all}
 use Rattle.rules.specs.declared.Slot.{Slot}
-use Rattle.record_reading.specs.Loops.{all-fails, all-passed}
+use Rattle.folds.specs.Loops.{all-fails, all-passed}
 use Rattle.record_reading.specs.Slots.{slotIn, differFrom, allDiffer}
 use Rattle.record_reading.proofs.clauses.matrices_differ.Statement.{statement}
 use Rattle.record_reading.proofs.clauses.matrices_differ.Tie as tie

@@ -6,6 +6,7 @@ use lib.Dec.{leb}
 use native.Mathlib.Omega.{arith}
 use borrow.Author.Needs.{needs}
 use borrow.Author.Tests.{le-leb, lt-leb}
+use Rattle.folds.specs.Found.{found3}
 use Rattle.folds.specs.Tests.{_or_, same, beq-same}
 use Rattle.rules.specs.Numbers.{echoQuorum}
 use Rattle.rules.specs.Record.{countE, countR, pairKeeps}
@@ -37,9 +38,5 @@ returns c =
 pub pair-keeps-spec : {M : Type 1} → statement M
 pair-keeps-spec =
     tie.close
-    (tie.spec
-    (λ c κs. (omega arith, omega arith))
-    (λ c κs. search needs)
-    (λ c κs. search needs)
-    (λ c κs. search needs)
+    (found3 (tie.spec (λ c κs. (omega arith, omega arith))) (search needs)
     returns)

@@ -5,11 +5,12 @@ use mathlib.Core.Bool.{Bool, true, Bool·beq}
 use mathlib.Core.Logic.{⊎-elim}
 use Prim.Native.Nat.{ℕ, _-_}
 use borrow.Author.Needs.{needs}
+use Rattle.folds.specs.Found.{found5}
 use Rattle.folds.specs.Tests.{_or_, same, beq-same, failed, passed}
 use Rattle.folds.specs.Below.{allBelow, allBelow-zero, allBelow-more}
 use Rattle.rules.specs.declared.Slot.{Slot}
 use Rattle.rules.specs.Record.{marked, held, placesKeep}
-use Rattle.record_reading.specs.Loops.{all-fails, all-passed}
+use Rattle.folds.specs.Loops.{all-fails, all-passed}
 use Rattle.record_reading.proofs.clauses.places_keep.Statement.{statement}
 use Rattle.record_reading.proofs.clauses.places_keep.Tie as tie
 
@@ -48,15 +49,7 @@ returns-2 c = all-passed _ _ _ (c .loop-test .left) (c .before .loop .inv)
 pub places-keep-spec : {M : Type 1} → statement M
 places-keep-spec =
     tie.close
-    (tie.spec
-    Inv-loop
-    μ-loop
-    (λ c. allBelow-zero _)
-    (λ c. search needs)
-    (λ c. search needs)
-    (λ c. search needs)
-    (λ c. search needs)
-    (λ c κs. search needs)
+    (found5 (tie.spec Inv-loop μ-loop (λ c. allBelow-zero _)) (search needs)
     returns
     (λ c. search needs)
     (λ c. search needs)

@@ -4,10 +4,11 @@ use mathlib.Core.Path.{_≡_, sym}
 use mathlib.Core.Bool.{true}
 use Prim.Native.Nat.{_-_}
 use borrow.Author.Needs.{needs}
+use Rattle.folds.specs.Found.{found3}
 use Rattle.folds.specs.Tests.{failed, passed}
 use Rattle.folds.specs.Below.{allBelow, allBelow-zero, allBelow-more, allBelow-not}
 use Rattle.rules.specs.Record.{placeAt, pointBelow, slotBelow}
-use Rattle.record_reading.specs.Loops.{all-passed}
+use Rattle.folds.specs.Loops.{all-passed}
 use Rattle.record_reading.proofs.clauses.slot_below.Statement.{statement}
 use Rattle.record_reading.proofs.clauses.slot_below.Tie as tie
 
@@ -37,13 +38,7 @@ returns-2 c =
 pub slot-below-spec : {M : Type 1} → statement M
 slot-below-spec =
     tie.close
-    (tie.spec
-    Inv-loop
-    μ-loop
-    (λ c. allBelow-zero _)
-    (λ c. search needs)
-    (λ c. search needs)
-    (λ c κs. search needs)
+    (found3 (tie.spec Inv-loop μ-loop (λ c. allBelow-zero _)) (search needs)
     returns
     (λ c. search needs)
     (λ c. search needs)

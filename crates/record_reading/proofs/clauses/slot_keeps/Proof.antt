@@ -3,9 +3,10 @@ use mathlib.Core.Path.{_≡_, sym, ap, _∙_}
 use mathlib.Core.Bool.{Bool}
 use mathlib.Core.Logic.{⊎-map}
 use borrow.Author.Needs.{needs}
+use Rattle.folds.specs.Found.{found5}
 use Rattle.folds.specs.Tests.{_and_}
 use Rattle.rules.specs.Record.{placesKeep, useKeeps, pairKeeps, entriesZero}
-use Rattle.record_reading.specs.Loops.{chain, chain-then, chain-else}
+use Rattle.folds.specs.Loops.{chain, chain-then, chain-else}
 use Rattle.record_reading.specs.Slots.{passesIn, slotKeeps}
 use Rattle.record_reading.proofs.clauses.slot_keeps.Statement.{statement}
 use Rattle.record_reading.proofs.clauses.slot_keeps.Tie as tie
@@ -34,12 +35,7 @@ most c =
 pub slot-keeps-spec : {M : Type 1} → statement M
 slot-keeps-spec =
     tie.close
-    (tie.spec
-    (λ c. search needs)
-    (λ c κs. search needs)
-    (λ c κs. search needs)
-    (λ c κs. search needs)
-    (λ c κs. search needs)
+    (found5 tie.spec (search needs)
     (λ c κs. c .before .before .before .before .before .before .pre .1)
     (λ c κs. search needs)
     (λ c. chain-then (most (c .before .before)) (c .before .if5 .taken) (c .entries-zero .ensures))

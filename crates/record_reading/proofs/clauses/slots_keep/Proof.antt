@@ -6,7 +6,7 @@ use Prim.Native.Nat.{_-_}
 use borrow.Author.Needs.{needs}
 use Rattle.folds.specs.Tests.{failed, passed}
 use Rattle.folds.specs.Below.{allBelow, allBelow-zero, allBelow-more}
-use Rattle.record_reading.specs.Loops.{all-fails, all-passed}
+use Rattle.folds.specs.Loops.{all-fails, all-passed}
 use Rattle.record_reading.specs.Slots.{slotIn, slotKeeps, everySlot}
 use Rattle.record_reading.proofs.clauses.slots_keep.Statement.{statement}
 use Rattle.record_reading.proofs.clauses.slots_keep.Tie as tie

@@ -13,7 +13,7 @@ use Rattle.folds.specs.Tests.{_or_, or-right}
 use Rattle.folds.specs.Below.{allBelow, allBelow-all, allBelow-more}
 use Rattle.rules.specs.declared.Element.{Element}
 use Rattle.rules.specs.Numbers.{element}
-use Rattle.record_reading.specs.Loops.{all-fails, all-passed}
+use Rattle.folds.specs.Loops.{all-fails, all-passed}
 use Rattle.record_reading.specs.Slots.{zeroFrom}
 use Rattle.record_reading.proofs.clauses.zero_from.Statement.{statement}
 use Rattle.record_reading.proofs.clauses.zero_from.Tie as tie

@@ -13,7 +13,7 @@ use Rattle.folds.specs.Tests.{_and_, implies}
 use Rattle.folds.specs.Below.{allBelow, allBelow-zero, allBelow-more, anyBelow}
 use Rattle.rules.specs.declared.Marks.{Marks}
 use Rattle.rules.specs.Record.{marked}
-use Rattle.record_reading.specs.Loops.{all-fails, all-passed}
+use Rattle.folds.specs.Loops.{all-fails, all-passed}
 use Rattle.record_soundness.specs.Clauses.{markIn, markedUnder, kindKeeps}
 use Rattle.record_soundness.specs.Counts.{any-counted}
 use Rattle.record_soundness.proofs.clauses.kind_keeps.Statement.{statement}

@@ -4,8 +4,9 @@ use mathlib.Core.Logic.{⊎-elim}
 use Prim.Native.Nat.{_-_}
 use native.Mathlib.Omega.{arith}
 use borrow.Author.Needs.{needs}
+use Rattle.folds.specs.Found.{found3}
 use Rattle.folds.specs.Below.{countBelow-le}
-use Rattle.record_reading.specs.Loops.{Counted, counted-start, counted-more, counted-all}
+use Rattle.folds.specs.Loops.{Counted, counted-start, counted-more, counted-all}
 use Rattle.record_soundness.specs.Clauses.{markIn, markedUnder}
 use Rattle.record_soundness.proofs.clauses.marked_under.Statement.{statement}
 use Rattle.record_soundness.proofs.clauses.marked_under.Tie as tie
@@ -34,13 +35,7 @@ returns c = counted-all _ 20 _ (c .loop-test .left) (c .before .loop .inv)
 pub marked-under-spec : {M : Type 1} → statement M
 marked-under-spec =
     tie.close
-    (tie.spec
-    Inv-loop
-    μ-loop
-    (λ c. counted-start _ 20)
-    (λ c. search needs)
-    (λ c. search needs)
-    (λ c. search needs)
+    (found3 (tie.spec Inv-loop μ-loop (λ c. counted-start _ 20)) (search needs)
     add-n
     (λ c. search needs)
     (λ c. search needs)

@@ -8,6 +8,7 @@ use native.Mathlib.Omega.{arith}
 use lib.Dec.{eqb}
 use lib.ListN.{length, getD, length-map, List·getD-map}
 use borrow.Author.Needs.{needs}
+use Rattle.folds.specs.Found.{found7}
 use Rattle.folds.specs.Tests.{pick}
 use Rattle.folds.specs.Stores.{stores, stores-zero, stores-turn, stores-left, stores-is}
 use Rattle.rules.specs.Record.{noMarks, noSlot}
@@ -47,16 +48,6 @@ returns c =
 pub marks-in-spec : {M : Type 1} → statement M
 marks-in-spec =
     tie.close
-    (tie.spec
-    Inv-loop
-    μ-loop
-    (λ c. (omega arith, sym (stores-zero _ _)))
-    (λ c. search needs)
-    (λ c. search needs)
-    (λ c κs. search needs)
-    (λ c. search needs)
-    (λ c. search needs)
-    (λ c. search needs)
-    (λ c. search needs)
+    (found7 (tie.spec Inv-loop μ-loop (λ c. (omega arith, sym (stores-zero _ _)))) (search needs)
     loop-again
     returns)

@@ -8,6 +8,7 @@ use lib.Dec.{leb}
 use lib.ListN.{getD, List·getD-map}
 use borrow.Author.Needs.{needs}
 use borrow.Author.Tests.{not-true, not-false}
+use Rattle.folds.specs.Found.{found3}
 use Rattle.folds.specs.Tests.{_and_, implies}
 use Rattle.folds.specs.Below.{allBelow, anyBelow, countBelow}
 use Rattle.rules.specs.declared.Marks.{Marks}
@@ -67,12 +68,5 @@ returns-2 c =
 pub marks-keep-spec : {M : Type 1} → statement M
 marks-keep-spec =
     tie.close
-    (tie.spec
-    (λ c κs. search needs)
-    (λ c. search needs)
-    (λ c κs. search needs)
-    returns
-    (λ c κs. search needs)
-    (λ c. search needs)
-    (λ c κs. search needs)
+    (found3 (found3 tie.spec (search needs) returns) (search needs)
     returns-2)

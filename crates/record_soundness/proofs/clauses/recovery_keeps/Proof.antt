@@ -7,10 +7,11 @@ use lib.Dec.{eqb, leb}
 use lib.ListN.{getD}
 use borrow.Author.Needs.{needs}
 use borrow.Author.Tests.{not-true, not-false}
+use Rattle.folds.specs.Found.{found6}
 use Rattle.folds.specs.Tests.{_and_, same, implies, beq-same}
 use Rattle.rules.specs.declared.Record.{Record}
 use Rattle.rules.specs.Record.{noMarks, isThere, isDone, sharesKept, keptBelow}
-use Rattle.record_reading.specs.Loops.{chain, chain-then, chain-else}
+use Rattle.folds.specs.Loops.{chain, chain-then, chain-else}
 use Rattle.record_soundness.specs.Clauses.{sharesKeep, recoveryPasses}
 use Rattle.record_soundness.proofs.clauses.recovery_keeps.Statement.{statement}
 use Rattle.record_soundness.proofs.clauses.recovery_keeps.Tie as tie
@@ -63,12 +64,6 @@ most c =
 pub recovery-keeps-spec : {M : Type 1} → statement M
 recovery-keeps-spec =
     tie.close
-    (tie.spec
-    (λ c. search needs)
-    (λ c κs. search needs)
-    (λ c κs. search needs)
-    (λ c κs. search needs)
-    (λ c κs. search needs)
-    (λ c κs. search needs)
+    (found6 tie.spec (search needs)
     (λ c. chain-then (most (c .before .before)) (c .before .if5 .taken) (c .kept-below .ensures))
     (λ c. chain-else _ (most (c .before)) (c .if5 .left)))

@@ -4,6 +4,7 @@ use mathlib.Core.Bool.{not}
 use Prim.Native.Nat.{ℕ, _+_}
 use borrow.Author.Needs.{needs}
 use borrow.Author.Tests.{not-true, not-false}
+use Rattle.folds.specs.Found.{found3}
 use Rattle.folds.specs.Below.{allBelow}
 use Rattle.rules.specs.declared.Record.{Record}
 use Rattle.rules.specs.Record.{heardFor, senderZero}
@@ -46,12 +47,5 @@ returns-3 c =
 pub sender-zero-spec : {M : Type 1} → statement M
 sender-zero-spec =
     tie.close
-    (tie.spec
-    (λ c κs. search needs)
-    returns
-    (λ c κs. search needs)
-    returns-2
-    (λ c. search needs)
-    (λ c. search needs)
-    (λ c κs. search needs)
+    (found3 (tie.spec (λ c κs. search needs) returns (λ c κs. search needs) returns-2) (search needs)
     returns-3)

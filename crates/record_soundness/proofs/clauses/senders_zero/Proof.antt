@@ -7,8 +7,9 @@ use Prim.Native.Nat.{ℕ, _-_, _≤_, _<_}
 use native.Mathlib.Omega.{arith}
 use lib.Dec.{ltb}
 use borrow.Author.Needs.{needs}
+use Rattle.folds.specs.Found.{found3}
 use Rattle.folds.specs.Tests.{_or_, failed, passed}
-use Rattle.record_reading.specs.Loops.{all-fails, all-passed}
+use Rattle.folds.specs.Loops.{all-fails, all-passed}
 use borrow.Author.Tests.{lt-ltb, le-ltb}
 use Rattle.folds.specs.Below.{allBelow, allBelow-zero, allBelow-more}
 use Rattle.rules.specs.declared.Record.{Record}
@@ -59,14 +60,6 @@ returns-2 c = all-passed _ _ _ (c .loop-test .left) (c .before .loop .inv .1)
 pub senders-zero-spec : {M : Type 1} → statement M
 senders-zero-spec =
     tie.close
-    (tie.spec
-    Inv-loop
-    μ-loop
-    (λ c. (omega arith, allBelow-zero _))
-    (λ c κs. search needs)
-    returns
-    (λ c. search needs)
-    (λ c. search needs)
-    (λ c. search needs)
+    (found3 (tie.spec Inv-loop μ-loop (λ c. (omega arith, allBelow-zero _)) (λ c κs. search needs) returns) (search needs)
     loop-again
     returns-2)

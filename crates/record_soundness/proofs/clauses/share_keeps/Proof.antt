@@ -4,7 +4,7 @@ use mathlib.Core.Logic.{⊎-map}
 use borrow.Author.Needs.{needs}
 use Rattle.folds.specs.Tests.{_and_}
 use Rattle.rules.specs.Dealing.{pairBelow}
-use Rattle.record_reading.specs.Loops.{chain, chain-then, chain-else}
+use Rattle.folds.specs.Loops.{chain, chain-then, chain-else}
 use Rattle.record_soundness.specs.Clauses.{shareKeeps}
 use Rattle.record_soundness.proofs.clauses.share_keeps.Statement.{statement}
 use Rattle.record_soundness.proofs.clauses.share_keeps.Tie as tie

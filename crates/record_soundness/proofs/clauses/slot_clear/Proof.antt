@@ -3,9 +3,10 @@ use mathlib.Core.Path.{_≡_, refl, sym, ap}
 use mathlib.Core.Bool.{Bool, not}
 use mathlib.Core.Logic.{⊎-map}
 use borrow.Author.Needs.{needs}
+use Rattle.folds.specs.Found.{found5}
 use Rattle.folds.specs.Tests.{_and_}
 use Rattle.rules.specs.Record.{marked}
-use Rattle.record_reading.specs.Loops.{chain, chain-then, chain-else}
+use Rattle.folds.specs.Loops.{chain, chain-then, chain-else}
 use Rattle.record_soundness.specs.Clauses.{slotClear}
 use Rattle.record_soundness.proofs.clauses.slot_clear.Statement.{statement}
 use Rattle.record_soundness.proofs.clauses.slot_clear.Tie as tie
@@ -25,11 +26,6 @@ most c =
 pub slot-clear-spec : {M : Type 1} → statement M
 slot-clear-spec =
     tie.close
-    (tie.spec
-    (λ c. search needs)
-    (λ c. search needs)
-    (λ c κs. search needs)
-    (λ c. search needs)
-    (λ c. search needs)
+    (found5 tie.spec (search needs)
     (λ c. chain-then (most (c .before .before)) (c .before .if2 .taken) refl)
     (λ c. chain-else _ (most (c .before)) (c .if2 .left)))

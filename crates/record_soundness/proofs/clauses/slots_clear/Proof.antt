@@ -4,9 +4,10 @@ use mathlib.Core.Path.{_≡_}
 use mathlib.Core.Bool.{true}
 use Prim.Native.Nat.{_-_}
 use borrow.Author.Needs.{needs}
+use Rattle.folds.specs.Found.{found3}
 use Rattle.folds.specs.Tests.{failed, passed}
 use Rattle.folds.specs.Below.{allBelow, allBelow-zero, allBelow-more}
-use Rattle.record_reading.specs.Loops.{all-fails, all-passed}
+use Rattle.folds.specs.Loops.{all-fails, all-passed}
 use Rattle.record_reading.specs.Slots.{slotIn, everySlot}
 use Rattle.record_soundness.specs.Clauses.{slotClear}
 use Rattle.record_soundness.proofs.clauses.slots_clear.Statement.{statement}
@@ -32,13 +33,7 @@ returns-2 c = all-passed _ _ _ (c .loop-test .left) (c .before .loop .inv)
 pub slots-clear-spec : {M : Type 1} → statement M
 slots-clear-spec =
     tie.close
-    (tie.spec
-    Inv-loop
-    μ-loop
-    (λ c. allBelow-zero _)
-    (λ c. search needs)
-    (λ c. search needs)
-    (λ c κs. search needs)
+    (found3 (tie.spec Inv-loop μ-loop (λ c. allBelow-zero _)) (search needs)
     returns
     (λ c. search needs)
     (λ c. search needs)

@@ -1,7 +1,7 @@
 -- `marks` ends at number 7. Assumes nothing.
 use Prim.Native.Nat.{_≤_, _-_}
 use borrow.Author.Needs.{needs}
-use Rattle.printing.specs.Found.{found9}
+use Rattle.folds.specs.Found.{found9}
 use Rattle.records.proofs.changes.marks.Statement.{statement}
 use Rattle.records.proofs.changes.marks.Tie as tie
 

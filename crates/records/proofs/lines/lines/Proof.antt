@@ -2,7 +2,7 @@
 use Prim.Native.Nat.{_≤_, _-_}
 use lib.ListN.{length}
 use borrow.Author.Needs.{needs}
-use Rattle.printing.specs.Found.{found13}
+use Rattle.folds.specs.Found.{found13}
 use Rattle.records.proofs.lines.lines.Statement.{statement}
 use Rattle.records.proofs.lines.lines.Tie as tie
 

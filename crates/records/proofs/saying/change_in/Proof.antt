@@ -2,7 +2,7 @@
 use Prim.Native.Nat.{_≤_, _-_}
 use lib.ListN.{length}
 use borrow.Author.Needs.{needs}
-use Rattle.printing.specs.Found.{found7}
+use Rattle.folds.specs.Found.{found7}
 use Rattle.records.proofs.saying.change_in.Statement.{statement}
 use Rattle.records.proofs.saying.change_in.Tie as tie
 

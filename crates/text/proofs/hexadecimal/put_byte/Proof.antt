@@ -7,6 +7,7 @@ use mathlib.Core.List.{[], _∷_}
 use mathlib.Core.Path.{refl, ap, ap₂, _∙_}
 use lib.ListN.{set, length-set}
 use lib.Seq.{sets}
+use Rattle.folds.specs.Found.{found4}
 use Rattle.text.proofs.hexadecimal.put_byte.Statement.{statement}
 use Rattle.text.proofs.hexadecimal.put_byte.Tie as tie
 
@@ -24,8 +25,7 @@ returns c =
 pub put-byte-spec : {M : Type 1} → statement M
 put-byte-spec =
     tie.close
-    (tie.spec
-    (λ c κs. search needs) (λ c. search needs) (λ c κs. search needs) (λ c. search needs)
+    (found4 tie.spec (search needs)
     (λ c. simp length-set (omega arith))
     (λ c. search needs)
     (λ c. search needs)

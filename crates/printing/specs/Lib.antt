@@ -1,2 +1,0 @@
--- How proofs of the programs are written.
-pub mod Found
