@@ -1,7 +1,5 @@
 // The calls of a box: set-up, deal, recovery command, delivery. The host may hand over any numbers, any bytes and any record:
 // every call has a numbered answer, and none asks for anything. The record goes in and comes back by value.
-mod new_box;
-
 use rules::Outcome;
 use rules::Record;
 use rules::SetUp;
@@ -14,16 +12,16 @@ pub fn set_up(u: SetUp) -> Outcome
 {
     let no = box_refusals::set_up(u);
     if no != 0 {
-        return box_step::refuse(new_box::zero_record(), no);
+        return box_step::refuse(record_writing::new_box::zero_record(), no);
     }
-    box_step::accept(box_step::quiet(new_box::new_record(u)))
+    box_step::accept(box_step::quiet(record_writing::new_box::new_record(u)))
 }
 
 // Refusals 15, 12, 13, 14.
 pub fn deal(x: Record, secret: u32, coins: &[u16], out: &mut [u8]) -> Outcome
     ensures { λ o. ⌜ Deals x secret (now (coins .entry)) (now (out .entry)) o (now (out .exit)) ⌝ }
 {
-    let no = box_refusals::deal(x, secret, coins, out.len());
+    let no = box_order::deal(x, secret, coins, out.len());
     if no != 0 {
         return box_step::refuse(x, no);
     }
@@ -34,7 +32,7 @@ pub fn deal(x: Record, secret: u32, coins: &[u16], out: &mut [u8]) -> Outcome
 pub fn command_recovery(x: Record, out: &mut [u8]) -> Outcome
     ensures { λ o. ⌜ Recovers x (now (out .entry)) o (now (out .exit)) ⌝ }
 {
-    let no = box_refusals::recover(x, out.len());
+    let no = box_order::recover(x, out.len());
     if no != 0 {
         return box_step::refuse(x, no);
     }
@@ -45,11 +43,11 @@ pub fn command_recovery(x: Record, out: &mut [u8]) -> Outcome
 pub fn deliver(x: Record, sender: u32, bytes: &[u8], out: &mut [u8]) -> Outcome
     ensures { λ o. ⌜ Delivers x sender (now (bytes .entry)) (now (out .entry)) o (now (out .exit)) ⌝ }
 {
-    let early = box_refusals::early(x, sender, bytes, out.len());
+    let early = box_order::early(x, sender, bytes, out.len());
     if early != 0 {
         return box_step::refuse(x, early);
     }
-    let no = box_refusals::hearing(x, sender, bytes);
+    let no = box_hearing::hearing(x, sender, bytes);
     if no != 0 {
         return box_step::refuse(box_steps::refused_at_hearing(x, sender, bytes), no);
     }

@@ -1,2 +1,2 @@
--- What only the contracts of the refusals name, and the laws that their proofs share.
+-- What only the contracts of the rows name.
 pub mod Known

@@ -19,10 +19,11 @@ ghost use Prim.Native.Nat.{_-_, _<_, _≤_};
 ghost use lib.ListN.{length};
 ghost use Rattle.rules.specs.Messages.{tagIn, hasMatrix, messageIn, sideTag};
 ghost use Rattle.rules.specs.Record.{heardFor};
-ghost use Rattle.rules.specs.Steps.{heard, lowest, readySent, readyDue, completionDue, completed, sendStep, pointStep, shareStep, messageStep, dealStep, recoverStep};
+ghost use Rattle.rules.specs.Steps.{heard, lowest, readySent, completed, sendStep, pointStep, recovering, shareStep, messageStep, dealStep, completedShare, shareBytes, recoverStep};
 ghost use Rattle.rules.specs.Answers.{refusalHeard};
 ghost use Rattle.rules.specs.Laws.Numbers.{Ranges};
 ghost use Rattle.rules.specs.Laws.Passed.{Hearing, Passed, DealPassed, RecoverPassed};
+ghost use Rattle.message_writing.specs.Written.{Writes};
 ghost use Rattle.box_step.specs.Takes.{made, Takes};
 ghost use Rattle.box_steps.specs.Sender.{Sender, Speaks};
 
@@ -40,31 +41,6 @@ fn take_send(out: &mut [u8], x: Record, m: usize, c: [[Element; 8]; 8], all: Pol
     box_step::sending(record_writing::heard_for(x, 1, m), Sent::Echo, bytes)
 }
 
-// Ready is sent now.
-fn ready_due(u: SetUp, side: Side, slot: Slot) -> bool
-    requires { ⌜ Ranges u ⌝ }
-    ensures { λ r. ⌜ r ≡ readyDue u side slot ⌝ }
-{
-    let echoes = record_reading::count_marks(slot.echoed);
-    let readies = record_reading::count_marks(slot.readied);
-    let quorum = u.echo_quorum();
-    match side {
-        Side::ByEcho => echoes == quorum && readies < u.k,
-        Side::ByReady => readies == u.k && echoes < quorum,
-    }
-}
-
-// Else the box completes now.
-fn completion_due(u: SetUp, side: Side, slot: Slot) -> bool
-    requires { ⌜ Ranges u ⌝ }
-    ensures { λ r. ⌜ r ≡ completionDue u side slot ⌝ }
-{
-    match side {
-        Side::ByEcho => false,
-        Side::ByReady => record_reading::count_marks(slot.readied) == u.k + u.t,
-    }
-}
-
 // Slot s as it now is has points enough: the pair is kept, and a ready goes to each box. The message was of this side, from sender m + 1.
 fn send_ready(out: &mut [u8], x: Record, side: Side, m: usize, s: usize, fresh: Slot) -> Step
     requires { ⌜ Speaks x m (length (now out)) × (s < 20) ⌝ }
@@ -73,7 +49,7 @@ fn send_ready(out: &mut [u8], x: Record, side: Side, m: usize, s: usize, fresh: 
     let u = x.setup;
     let group = session_numbers::group_of(u);
     let places = fresh.places;
-    let ready = interpolation::ready_from(group.q, u.k as usize, u.n as usize, places);
+    let ready = record_points::ready_from(group.q, u.k as usize, u.n as usize, places);
     let rows = fresh.rows;
     let c = record_reading::matrix_of(rows);
     let fours = ready.fours;
@@ -121,34 +97,29 @@ fn take_point(
     let open = record_slots::opened_for(c, old);
     let fresh = record_slots::with_point(open, side, m, four);
     let u = x.setup;
-    if ready_due(u, side, fresh) {
+    if record_slots::due::ready_due(u, side, fresh) {
         return send_ready(out, x, side, m, s, fresh);
     }
     let next = record_writing::heard_at_slot(x, side, m, s, fresh);
-    if completion_due(u, side, fresh) {
+    if record_slots::due::completion_due(u, side, fresh) {
         return complete(next, s);
     }
     box_step::quiet(next)
 }
 
-// A checked recovery share of sender m + 1.
-fn take_share(x: Record, m: usize, pair: Pair) -> Step
-    requires { ⌜ Sender x m × (heardFor x 4 m ≡ false) ⌝ }
-    ensures { λ s. ⌜ s ≡ made (shareStep (heard x 4 m) m pair) ⌝ }
+// What these recovery shares give: the pair, where they are k.
+fn recovering(x: Record, shares: [Keep; 10]) -> Step
+    requires { ⌜ Ranges (x .setup) ⌝ }
+    ensures { λ s. ⌜ s ≡ made (recovering x shares) ⌝ }
 {
     let u = x.setup;
-    let share = Keep {
-        kept: Kept::There(pair),
-    };
-    let mut shares = x.shares;
-    shares[m] = share;
     if record_reading::count_shares(shares) == u.k {
         let group = session_numbers::group_of(u);
-        let found = interpolation::recovered_from(group.q, u.k as usize, shares);
+        let found = record_points::recovered_from(group.q, u.k as usize, shares);
         let recovered = Keep {
             kept: Kept::There(found),
         };
-        let after = record_writing::heard_with_share(x, m, pair, recovered);
+        let after = record_writing::with_shares(x, shares, recovered);
         return Step {
             after,
             sent: Sent::Nothing,
@@ -158,7 +129,20 @@ fn take_share(x: Record, m: usize, pair: Pair) -> Step
         };
     }
     let recovered = x.recovered;
-    box_step::quiet(record_writing::heard_with_share(x, m, pair, recovered))
+    box_step::quiet(record_writing::with_shares(x, shares, recovered))
+}
+
+// A checked recovery share of sender m + 1.
+fn take_share(x: Record, m: usize, pair: Pair) -> Step
+    requires { ⌜ Sender x m ⌝ }
+    ensures { λ s. ⌜ s ≡ made (shareStep (heard x 4 m) m pair) ⌝ }
+{
+    let share = Keep {
+        kept: Kept::There(pair),
+    };
+    let mut shares = x.shares;
+    shares[m] = share;
+    recovering(record_writing::heard_for(x, 4, m), shares)
 }
 
 // A checked message, by its kind.
@@ -207,36 +191,41 @@ pub fn take_deal(out: &mut [u8], x: Record, secret: u32, coins: &[u16]) -> Step
     let u = x.setup;
     let k = u.k as usize;
     let group = session_numbers::group_of(u);
-    let f = dealing::from_coins(u, secret as u16, coins, 0);
-    let f2 = dealing::from_coins(u, secret as u16, coins, k * k);
+    let f = coins::from_coins(u, secret as u16, coins, 0);
+    let f2 = coins::from_coins(u, secret as u16, coins, k * k);
     let c = dealing::commit_all(group, k, f, f2);
     let all = dealing::polynomials_for_all(group.q, k, u.n as usize, f, f2);
     let bytes = message_writing::write_sends(out, u, c, all);
     box_step::sending(record_writing::dealt(x), Sent::Send, bytes)
 }
 
-// The recovery command of a completed box: its share to each box.
-pub fn take_command(out: &mut [u8], x: Record) -> Step
+// The completed share to each box: how many bytes.
+fn write_own_share(out: &mut [u8], x: Record) -> usize
     requires { ⌜ RecoverPassed x (length (now out)) ⌝ }
-    ensures { λ s. ⌜ Takes (recoverStep x) (now (out .entry)) s (now (out .exit)) ⌝ }
+    ensures { λ r. ⌜ Writes (shareBytes (x .setup) (completedShare x (x .progress .completion))) (now (out .entry)) (now (out .exit)) r ⌝ }
 {
     let u = x.setup;
     let progress = x.progress;
     let completion = progress.completion;
-    let next = record_writing::commanded(x);
     match completion {
-        Completion::NotYet => box_step::sending(next, Sent::Recovery, 0),
+        Completion::NotYet => 0,
         Completion::With(s) => {
             let slot = x.slots[s];
             let keep = slot.pair;
             let kept = keep.kept;
             match kept {
-                Kept::Absent => box_step::sending(next, Sent::Recovery, 0),
-                Kept::There(pair) => {
-                    let bytes = message_writing::write_shares(out, u, pair);
-                    box_step::sending(next, Sent::Recovery, bytes)
-                }
+                Kept::Absent => 0,
+                Kept::There(pair) => message_writing::write_shares(out, u, pair),
             }
         }
     }
+}
+
+// The recovery command of a completed box.
+pub fn take_command(out: &mut [u8], x: Record) -> Step
+    requires { ⌜ RecoverPassed x (length (now out)) ⌝ }
+    ensures { λ s. ⌜ Takes (recoverStep x) (now (out .entry)) s (now (out .exit)) ⌝ }
+{
+    let bytes = write_own_share(out, x);
+    box_step::sending(record_writing::commanded(x), Sent::Recovery, bytes)
 }

@@ -35,7 +35,7 @@ fn message(tag: u8, u: SetUp, to: u8) -> Part
     ensures { λ r. ⌜ (r .at ≤ r .end) × (r .end ≤ 2048) ⌝ }
 {
     let none = Part { at: 0, end: 0 };
-    if 8 < u.k {
+    if SetUp::WIDTH < u.k as usize {
         return none;
     }
     let len = message_reading::whole_length(u, tag);

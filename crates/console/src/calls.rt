@@ -54,43 +54,43 @@ fn told(lent: usize, o: Outcome, out: &[u8]) -> Bench {
     Bench { x, lent }
 }
 
+fn deal(bench: Bench, secret: u32, coins: &[u16], out: &mut [u8]) -> Bench {
+    let o = box_calls::deal(bench.x, secret, coins, out);
+    told(bench.lent, o, out)
+}
+
+fn deliver(bench: Bench, sender: u32, bytes: &[u8], out: &mut [u8]) -> Bench {
+    let o = box_calls::deliver(bench.x, sender, bytes, out);
+    told(bench.lent, o, out)
+}
+
+fn recover(bench: Bench, out: &mut [u8]) -> Bench {
+    let o = box_calls::command_recovery(bench.x, out);
+    told(bench.lent, o, out)
+}
+
+fn lend(bench: Bench, lent: usize) -> Bench {
+    printing::numbered(b"lent ", lent);
+    printing::words(b"\n");
+    let x = bench.x;
+    Bench { x, lent }
+}
+
 // With the coins and the bytes that the line says, and the buffer that is lent.
 fn call(bench: Bench, said: Said, coins: &[u16], bytes: &[u8], out: &mut [u8]) -> Bench
     requires { ⌜ Lent said (now coins) (now bytes) ⌝ }
 {
-    let x = bench.x;
     match said {
-        Said::SetUp(u) => told(bench.lent, box_calls::set_up(u), b""),
-        Said::Deal { secret, coins: n } => {
-            let o = box_calls::deal(x, secret, &coins[0..n], out);
-            told(bench.lent, o, out)
-        }
-        Said::Deliver { sender, bytes: n } => {
-            let o = box_calls::deliver(x, sender, &bytes[0..n], out);
-            told(bench.lent, o, out)
-        }
-        Said::Recover => {
-            let o = box_calls::command_recovery(x, out);
-            told(bench.lent, o, out)
-        }
-        Said::Lend(lent) => {
-            printing::numbered(b"lent ", lent);
-            printing::words(b"\n");
-            Bench { x, lent }
-        }
-        Said::Show => {
-            printing::showing::show(x);
-            bench
-        }
-        Said::Help => {
-            help();
-            bench
-        }
-        Said::Bad => {
-            bad_line();
-            bench
-        }
+        Said::SetUp(u) => return told(bench.lent, box_calls::set_up(u), b""),
+        Said::Deal { secret, coins: n } => return deal(bench, secret, &coins[0..n], out),
+        Said::Deliver { sender, bytes: n } => return deliver(bench, sender, &bytes[0..n], out),
+        Said::Recover => return recover(bench, out),
+        Said::Lend(lent) => return lend(bench, lent),
+        Said::Show => printing::showing::show(bench.x),
+        Said::Help => help(),
+        Said::Bad => bad_line(),
     }
+    bench
 }
 
 // The buffers have room for 4,096 coins, 4,096 bytes of a message, and 4,096 bytes that are lent.

@@ -1,41 +1,16 @@
 -- What a contract names beside the definitions of `rules`: what dealing asks, the values along the rows or the columns of f,
 -- and zeros for the boxes behind n.
 -- Assumes nothing.
-use mathlib.Core.Path.{_≡_}
-use mathlib.Core.Bool.{Bool, true}
+use mathlib.Core.Bool.{Bool}
 use mathlib.Core.List.{List}
-use mathlib.Core.Logic.{⊎-elim}
 use Prim.Native.Nat.{ℕ, _*_, _%_, _^_, _<_, _≤_}
-use native.Mathlib.Omega.{arith}
-use lib.Dec.{eqb}
 use lib.ListN.{replicate}
-use borrow.Author.Tests.{eqb-true}
-use Rattle.folds.specs.Tests.{pick, or-cases}
+use Rattle.folds.specs.Tests.{pick}
 use Rattle.folds.specs.Below.{sumBelow}
 use Rattle.rules.specs.declared.Exponent.{Exponent}
 use Rattle.rules.specs.declared.Polynomials.{Polynomials}
-use Rattle.rules.specs.declared.SetUp.{SetUp}
-use Rattle.rules.specs.Numbers.{exponent, groupKeeps}
+use Rattle.rules.specs.Numbers.{exponent}
 use Rattle.rules.specs.Matrices.{coefficient₂}
-
--- what the test of the coins asks of a set-up
-pub record Dealable (u : SetUp) : Type 0 where
-  pub group : groupKeeps u ≡ true
-  pub low : 1 ≤ u .k
-  pub high : u .k ≤ 8
-
--- its group is one of the table
-pub record InTable (u : SetUp) : Type 0 where
-  pub first : 1 ≤ u .group
-  pub last : u .group ≤ 2
-
-pub in-table : (u : SetUp) → groupKeeps u ≡ true → InTable u
-unfolding groupKeeps
-in-table u h =
-    ⊎-elim
-    (λ e. let q = eqb-true (u .group) 1 e in record { first = omega arith; last = omega arith })
-    (λ e. let q = eqb-true (u .group) 2 e in record { first = omega arith; last = omega arith })
-    (or-cases (eqb (u .group) 1) (eqb (u .group) 2) h)
 
 -- what is asked where something is worked out for boxes 1 to n
 pub record ForBoxes (q k n : ℕ) : Type 0 where

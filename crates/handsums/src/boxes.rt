@@ -57,7 +57,7 @@ pub fn from_two(q: u16, of_1: Pair, at: usize, of_other: Pair) -> Pair
     requires { ⌜ (10 ≤ q) × (at < 10) ⌝ }
 {
     let one = also_kept(none_kept(), 0, of_1);
-    interpolation::recovered_from(q, 2, also_kept(one, at, of_other))
+    record_points::recovered_from(q, 2, also_kept(one, at, of_other))
 }
 
 // The shares of boxes 2, 4 and 5.
@@ -66,7 +66,7 @@ pub fn from_three(q: u16, of_2: Pair, of_4: Pair, of_5: Pair) -> Pair
 {
     let one = also_kept(none_kept(), 1, of_2);
     let two = also_kept(one, 3, of_4);
-    interpolation::recovered_from(q, 3, also_kept(two, 4, of_5))
+    record_points::recovered_from(q, 3, also_kept(two, 4, of_5))
 }
 
 // ---- points
@@ -87,7 +87,7 @@ pub fn share_from(q: u16, from_2: Four, from_3: Four) -> Exponent
         point: Point::Held(from_3),
     };
     places[2] = third;
-    let ready = interpolation::ready_from(q, 2, 4, places);
+    let ready = record_points::ready_from(q, 2, 4, places);
     let pair = ready.pair;
     pair.first
 }

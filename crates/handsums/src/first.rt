@@ -112,8 +112,8 @@ fn another_share(group: Group, of_1: Pair, c: [[Element; 8]; 8])
 fn sent(word: &[u8], group: Group, secret: u16, coins: &[u16; 7])
     requires { ⌜ (0 < group .p) × (0 < group .q) ⌝ }
 {
-    let f = dealing::from_coins(CLASS, secret, coins, 0);
-    let f2 = dealing::from_coins(CLASS, secret, coins, 4);
+    let f = coins::from_coins(CLASS, secret, coins, 0);
+    let f2 = coins::from_coins(CLASS, secret, coins, 4);
     words(word);
     printing::matrix(b", ", 2, dealing::commit_all(group, 2, f, f2));
     words(b" and a, a', b, b' of box 1 = ");
@@ -172,8 +172,8 @@ pub fn sums(group: Group)
     requires { ⌜ (0 < group .p) × (10 ≤ group .q) ⌝ }
 {
     let coins = [3u16, 2, 4, 1, 6, 7, 9];
-    let f = dealing::from_coins(CLASS, 5, &coins, 0);
-    let f2 = dealing::from_coins(CLASS, 5, &coins, 4);
+    let f = coins::from_coins(CLASS, 5, &coins, 0);
+    let f2 = coins::from_coins(CLASS, 5, &coins, 4);
     let c = dealing::commit_all(group, 2, f, f2);
     if checking::matrix_passes(group, 2, c) {
         dealt(group, f, f2, c);

@@ -98,8 +98,8 @@ pub fn sums(group: Group)
         64,
         518,
     ];
-    let f = dealing::from_coins(CLASS, 700, &coins, 0);
-    let f2 = dealing::from_coins(CLASS, 700, &coins, 9);
+    let f = coins::from_coins(CLASS, 700, &coins, 0);
+    let f2 = coins::from_coins(CLASS, 700, &coins, 9);
     let c = dealing::commit_all(group, 3, f, f2);
     if checking::matrix_passes(group, 3, c) {
         dealt(group, f, f2, c);

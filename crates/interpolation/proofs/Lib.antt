@@ -1,3 +1,2 @@
--- What the proofs of several functions use: the arrays of a list of points, and the values that points give.
-mod Lists
+-- What the proofs of several functions use: the values that points give.
 mod Values

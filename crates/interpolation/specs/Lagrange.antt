@@ -13,7 +13,7 @@ use Rattle.rules.specs.declared.Pair.{Pair}
 use Rattle.rules.specs.Numbers.{exponent}
 use Rattle.rules.specs.Matrices.{row, coefficient}
 use Rattle.rules.specs.Steps.{Said, through}
-use Rattle.interpolation.specs.declared.lagrange.Points.{Points}
+use Rattle.interpolation.specs.declared.Points.{Points}
 use Rattle.interpolation.specs.Points.{boxAt}
 
 abbrev pub inverseAt : ℕ → ℕ → List ℕ → ℕ → Exponent

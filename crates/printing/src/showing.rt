@@ -35,7 +35,7 @@ fn place(k: usize, s: usize, slot: Slot) {
 
 fn places(k: usize, all: [Slot; 20]) {
     let mut s: usize = 0;
-    while s < 20 {
+    while s < SetUp::SLOTS {
         let slot = all[s];
         if slot.used {
             place(k, s, slot);
@@ -64,7 +64,7 @@ fn completion(done: Completion, all: [Slot; 20]) {
     match done {
         Completion::NotYet => words(b"not completed\n"),
         Completion::With(s) => {
-            if s < 20 {
+            if s < SetUp::SLOTS {
                 let slot = all[s];
                 let keep = slot.pair;
                 numbered(b"completed place ", s);
@@ -81,7 +81,7 @@ fn shares(all: [Keep; 10]) {
         words(b" none");
     }
     let mut m: usize = 0;
-    while m < 10 {
+    while m < SetUp::BOXES {
         let keep = all[m];
         m += 1;
         if record_reading::is_there(keep) {

@@ -1,2 +1,2 @@
--- What the tests of slots name beside the definitions of `rules`.
+-- What the readers of slots name beside the definitions of `rules`.
 pub mod Slots

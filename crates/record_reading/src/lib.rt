@@ -1,7 +1,4 @@
-// Reading the record: what a place, a keep, a completion and a slot's rows hold, and the counts. The clauses of a sound record that
-// speak of one slot, or of two, are in `clauses`.
-pub mod clauses;
-
+// Reading the record: what a place, a keep, a completion and a slot's rows hold, and the counts.
 use rules::Completion;
 use rules::Element;
 use rules::Keep;
@@ -10,6 +7,7 @@ use rules::Marks;
 use rules::Place;
 use rules::Point;
 use rules::Row;
+use rules::SetUp;
 use rules::Slot;
 ghost use mathlib.Core.Path.{_≡_};
 ghost use mathlib.Core.List.{map};
@@ -52,7 +50,7 @@ pub fn count_shares(shares: [Keep; 10]) -> u32
 {
     let mut n: u32 = 0;
     let mut m: usize = 0;
-    while m < 10 {
+    while m < SetUp::BOXES {
         let share = shares[m];
         if is_there(share) {
             n += 1;
@@ -68,7 +66,7 @@ pub fn count_marks(marks: Marks) -> u32
 {
     let mut n: u32 = 0;
     let mut m: usize = 0;
-    while m < 10 {
+    while m < SetUp::BOXES {
         if marks.at[m] {
             n += 1;
         }
@@ -84,7 +82,7 @@ pub fn matrix_of(rows: [Row; 8]) -> [[Element; 8]; 8]
     let zeros = [Element(0); 8];
     let mut c = [zeros; 8];
     let mut j: usize = 0;
-    while j < 8 {
+    while j < SetUp::WIDTH {
         let row = rows[j];
         let at = row.at;
         c[j] = at;

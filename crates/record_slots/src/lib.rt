@@ -1,4 +1,6 @@
-// The slot of a matrix: finding it, opening it, and one more point and mark in it.
+// The slot of a matrix: finding it, opening it, one more point and mark in it, and what it is then due.
+pub mod due;
+
 use rules::Element;
 use rules::Four;
 use rules::Keep;

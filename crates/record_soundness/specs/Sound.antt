@@ -16,7 +16,7 @@ use Rattle.rules.specs.declared.Slot.{Slot}
 use Rattle.rules.specs.Numbers.{groupKeeps, numbersKeep}
 use Rattle.rules.specs.Record.{groupIn, slotAt, shareAt, heardFor, isThere, isDone, sharesKept, keptBelow, setupKeeps, slotBelow, exponentsBelow, matricesDiffer, matricesPass, marksKeep, placesKeep, useKeeps, pairKeeps, completionKeeps, recoveryKeeps, dealtKeeps, entriesZero, unusedZero, sound}
 use Rattle.rules.specs.Laws.Clauses.{clauses, is-sound}
-use Rattle.record_reading.specs.Slots.{everySlot, slotKeeps, passesIn, differFrom, allDiffer}
+use Rattle.record_clauses.specs.Clauses.{everySlot, slotKeeps, passesIn, differFrom, allDiffer}
 use Rattle.record_soundness.specs.Clauses.{shareKeeps, sharesKeep, recoveryPasses, sendersClear}
 
 pub record Tests (x : Record) : Type 0 where

@@ -9,7 +9,7 @@ use rules::Slot;
 ghost use mathlib.Core.Path.{_≡_};
 ghost use Prim.Native.Nat.{_+_, _≤_, _<_};
 ghost use Rattle.rules.specs.Record.{marksKeep, completionKeeps, dealtKeeps, senderZero};
-ghost use Rattle.record_reading.specs.Slots.{everySlot};
+ghost use Rattle.record_clauses.specs.Clauses.{everySlot};
 ghost use Rattle.record_soundness.specs.Clauses.{marksFor, marksIn, markedUnder, kindKeeps, shareKeeps, sharesKeep, recoveryPasses, slotClear, heardClear, sendersClear};
 
 // ---- a sender is marked for echo or ready under at most one matrix each, and then is heard for that tag
@@ -30,7 +30,7 @@ fn marks_in(slots: [Slot; 20], tag: u8) -> [Marks; 20]
     let none = Marks { at: [false; 10] };
     let mut made = [none; 20];
     let mut s: usize = 0;
-    while s < 20 {
+    while s < SetUp::SLOTS {
         let slot = slots[s];
         let marks = marks_of(slot, tag);
         made[s] = marks;
@@ -46,7 +46,7 @@ fn marked_under(marks: [Marks; 20], m: usize) -> u32
 {
     let mut n: u32 = 0;
     let mut s: usize = 0;
-    while s < 20 {
+    while s < SetUp::SLOTS {
         let here = marks[s];
         if here.at[m] {
             n += 1;
@@ -60,7 +60,7 @@ fn kind_keeps(marks: [Marks; 20], heard: Marks) -> bool
     ensures { λ r. ⌜ r ≡ kindKeeps marks heard ⌝ }
 {
     let mut m: usize = 0;
-    while m < 10 {
+    while m < SetUp::BOXES {
         let n = marked_under(marks, m);
         if 1 < n {
             return false;
@@ -100,7 +100,7 @@ pub fn completion_keeps(x: Record) -> bool
     match completion {
         Completion::NotYet => true,
         Completion::With(s) => {
-            if 20 <= s {
+            if SetUp::SLOTS <= s {
                 return false;
             }
             let slot = x.slots[s];
@@ -132,7 +132,7 @@ fn shares_keep(q: u16, commanded: bool, heard: Marks, shares: [Keep; 10]) -> boo
     ensures { λ r. ⌜ r ≡ sharesKeep q commanded heard shares ⌝ }
 {
     let mut m: usize = 0;
-    while m < 10 {
+    while m < SetUp::BOXES {
         let share = shares[m];
         if !share_keeps(q, commanded, heard.at[m], share) {
             return false;
@@ -158,7 +158,7 @@ pub fn recovery_keeps(q: u16, x: Record) -> bool
         && shares_keep(q, progress.commanded, heard, shares)
         && n <= u.k
         && given == (n == u.k)
-        && record_reading::clauses::kept_below(q, recovered)
+        && record_clauses::kept_below(q, recovered)
 }
 
 // ---- only box d has dealt
@@ -239,7 +239,7 @@ pub fn senders_zero(x: Record) -> bool
     let u = x.setup;
     let mut number: u32 = 0;
     let mut m: usize = 0;
-    while m < 10 {
+    while m < SetUp::BOXES {
         if u.n <= number {
             if !sender_zero(x, m) {
                 return false;

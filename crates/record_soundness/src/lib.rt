@@ -18,10 +18,10 @@ pub fn is_sound(x: Record) -> bool
     }
     let group = session_numbers::group_of(u);
     let all = x.slots;
-    if !record_reading::clauses::slots_keep(group, u, all) {
+    if !record_clauses::slots_keep(group, u, all) {
         return false;
     }
-    if !record_reading::clauses::matrices_differ(u.k as usize, all) {
+    if !record_clauses::matrices_differ(u.k as usize, all) {
         return false;
     }
     if !clauses::marks_keep(x) {

@@ -1,9 +1,9 @@
-// One part of the record anew, or two at once: each change is made on one copy.
+// One part of the record anew, or two at once: each change is made on one copy. In `new_box`: the whole of a new one.
+pub mod new_box;
+
 use rules::Completion;
 use rules::Keep;
-use rules::Kept;
 use rules::Marks;
-use rules::Pair;
 use rules::Progress;
 use rules::Record;
 use rules::Side;
@@ -11,7 +11,7 @@ use rules::Slot;
 ghost use mathlib.Core.Path.{_≡_};
 ghost use Prim.Native.Nat.{_<_};
 ghost use Rattle.rules.specs.Messages.{sideTag};
-ghost use Rattle.rules.specs.Steps.{heard, withSlot, withShares, sharing, completing, firstCompletion};
+ghost use Rattle.rules.specs.Steps.{heard, withSlot, withShares, completing, firstCompletion};
 ghost use Rattle.record_writing.specs.Anew.{Heard, heardMarks, dealtAfter, commandedAfter};
 
 // Sender m + 1 marked among those heard for the tag.
@@ -53,19 +53,12 @@ pub fn heard_at_slot(x: Record, side: Side, m: usize, s: usize, slot: Slot) -> R
     next
 }
 
-// Sender m + 1 is heard for tag 4, its share kept, and the recovered pair is this.
-pub fn heard_with_share(x: Record, m: usize, pair: Pair, recovered: Keep) -> Record
-    requires { ⌜ m < 10 ⌝ }
-    ensures { λ r. ⌜ r ≡ withShares (heard x 4 m) (sharing (heard x 4 m) m pair) recovered ⌝ }
+// The recovery shares and the recovered pair anew.
+pub fn with_shares(x: Record, shares: [Keep; 10], recovered: Keep) -> Record
+    ensures { λ r. ⌜ r ≡ withShares x shares recovered ⌝ }
 {
-    let old = x.heard;
-    let marks = heard_marks(old, 4, m);
-    let share = Keep {
-        kept: Kept::There(pair),
-    };
     let mut next = x;
-    next.heard = marks;
-    next.shares[m] = share;
+    next.shares = shares;
     next.recovered = recovered;
     next
 }

@@ -206,18 +206,21 @@ turnRows x sender bytes =
     ∷ 7 when heardFor x (tagIn bytes) (sender - 1)
     ∷ []
 
--- what it says: 8 to 10. "All refusals leave the record as it came, except that 8, 9 and 10 on tags 1, 2, 3 mark that sender
--- heard for that tag: only the first one gets a hearing."
-unfoldable pub hearingRows : Record → ℕ → List ℕ → List Refusal
-hearingRows x sender bytes =
-    map (marking (hasMatrix (tagIn bytes)))
+-- what it says: 8 to 10
+abbrev pub hearingTests : Record → ℕ → List ℕ → List Refusal
+hearingTests x sender bytes =
     -- "a matrix entry e is 0, ≥ p, or e^q is not 1"
-    (8 when hasMatrix (tagIn bytes) and not (matrixPasses (groupIn x) (x .setup .k) (matrixIn (x .setup) bytes))
+    8 when hasMatrix (tagIn bytes) and not (matrixPasses (groupIn x) (x .setup .k) (matrixIn (x .setup) bytes))
     -- "an exponent ≥ q"
     ∷ 9 when not (exponentsKeep (x .setup) (messageIn (x .setup) bytes))
     -- "the check of its kind fails"
     ∷ 10 when not (checks x sender (messageIn (x .setup) bytes))
-    ∷ [])
+    ∷ []
+
+-- "All refusals leave the record as it came, except that 8, 9 and 10 on tags 1, 2, 3 mark that sender heard for that tag: only
+-- the first one gets a hearing."
+unfoldable pub hearingRows : Record → ℕ → List ℕ → List Refusal
+hearingRows x sender bytes = map (marking (hasMatrix (tagIn bytes))) (hearingTests x sender bytes)
 
 -- those before the hearing mark nobody
 unfoldable pub earlyRows : Record → ℕ → List ℕ → ℕ → List Refusal

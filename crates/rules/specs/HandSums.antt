@@ -20,7 +20,7 @@ use Rattle.rules.specs.Matrices.{matrix, entry, α}
 use Rattle.rules.specs.Messages.{send, bytesOf}
 use Rattle.rules.specs.Dealing.{fOf, f′Of, committed, commitment, polynomialsOf, valueAt, pointCheck, shareCheck}
 use Rattle.rules.specs.Record.{nothing, newRecord, zeroSlot}
-use Rattle.rules.specs.Steps.{withShares, sharePoints, through, pairFrom, recoveredFrom, lowest, opened, taken, sharing}
+use Rattle.rules.specs.Steps.{withShares, sharePoints, through, echoFour, pairFrom, recoveredFrom, lowest, opened, taken, sharing}
 use Rattle.rules.specs.Answers.{setUp}
 use Rattle.rules.specs.Computed.{computed}
 
@@ -52,6 +52,10 @@ C secret coins = commitment G 2 (fOf class secret coins) (f′Of class secret co
 
 abbrev pub dealt : ℕ → List ℕ → ℕ → Polynomials
 dealt secret coins i = polynomialsOf 11 2 (fOf class secret coins) (f′Of class secret coins) i
+
+-- the point that box m sends to box 1
+abbrev pub point : ℕ → Four
+point m = echoFour 11 2 (dealt 5 coins m) 1
 
 abbrev pub share : ℕ → Pair
 share i = pair (valueAt 11 2 (dealt 5 coins i .a) 0) (valueAt 11 2 (dealt 5 coins i .a2) 0)

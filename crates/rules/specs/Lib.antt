@@ -1,5 +1,5 @@
 -- Document 01 as definitions, in its order and its words: what a reader must believe stands in the first nine files, and
--- only there. Then the sums done by hand, a call for each answer number, useless boxes, and the laws that follow.
+-- only there. Then the sums done by hand, useless boxes, and the laws that follow.
 pub mod Numbers
 pub mod Matrices
 pub mod Messages
@@ -11,7 +11,6 @@ pub mod Text
 pub mod Sheet
 pub mod Computed
 pub mod HandSums
-pub mod EachNumber
 pub mod UselessBoxes
 pub mod SheetExample
 pub mod Laws

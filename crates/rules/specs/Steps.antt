@@ -154,11 +154,11 @@ abbrev pub holding : Slot → ℕ → Four → List Place
 holding slot m f = set (slot .places) m (record { point = firstPoint (placeAt slot m .point) f })
 
 -- the marks of a side, where a message of side b is taken
-abbrev pub hit : Side → Side → Marks → ℕ → Marks
-hit ByEcho ByEcho ms m = mark ms m
-hit ByEcho ByReady ms m = ms
-hit ByReady ByEcho ms m = ms
-hit ByReady ByReady ms m = mark ms m
+abbrev pub sideMarks : Side → Side → Marks → ℕ → Marks
+sideMarks ByEcho ByEcho ms m = mark ms m
+sideMarks ByEcho ByReady ms m = ms
+sideMarks ByReady ByEcho ms m = ms
+sideMarks ByReady ByReady ms m = mark ms m
 
 -- "its count e for this C goes up by one", "r for this C goes up by one"
 abbrev pub taken : Side → Slot → ℕ → Four → Slot
@@ -167,8 +167,8 @@ taken b slot m f =
       used = slot .used;
       rows = slot .rows;
       places = holding slot m f;
-      echoed = hit ByEcho b (slot .echoed) m;
-      readied = hit ByReady b (slot .readied) m;
+      echoed = sideMarks ByEcho b (slot .echoed) m;
+      readied = sideMarks ByReady b (slot .readied) m;
       pair = slot .pair;
     }
 

@@ -20,8 +20,7 @@ use Rattle.rules.specs.Messages.{Message, send, echo, bytesOf}
 use Rattle.rules.specs.Record.{zeroSlot, countE, newRecord}
 use Rattle.rules.specs.Answers.{Done, Delivers, deliver}
 use Rattle.rules.specs.Computed.{computed}
-use Rattle.rules.specs.HandSums.{class, coins, C, dealt}
-use Rattle.rules.specs.EachNumber.{point}
+use Rattle.rules.specs.HandSums.{class, coins, C, dealt, point}
 
 abbrev pub Station : Type 0
 Station = Record → ℕ → List ℕ → List ℕ → Done

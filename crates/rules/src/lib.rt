@@ -61,7 +61,7 @@ pub struct SetUp {
 
 impl SetUp {
     // Boxes are 1..n, n ≤ 10.
-    pub const BOXES: u32 = 10;
+    pub const BOXES: usize = 10;
     // k is at most 8.
     pub const WIDTH: usize = 8;
 

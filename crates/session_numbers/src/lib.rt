@@ -30,7 +30,7 @@ pub fn group_of(u: SetUp) -> Group
 pub fn sizes_keep(n: u32, t: u32, k: u32) -> bool
     ensures { λ r. ⌜ r ≡ sizesKeep n t k ⌝ }
 {
-    if SetUp::BOXES < n {
+    if SetUp::BOXES < n as usize {
         return false;
     }
     if t < 1 {

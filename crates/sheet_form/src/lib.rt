@@ -188,7 +188,7 @@ pub fn shares(b: &[u8], n: usize, k: usize) -> [Keep; 10]
     ensures { λ r. ⌜ r ≡ sheetShares (now (b .entry)) (boxesPlace (now (b .entry)) k) n ⌝ }
 {
     let nothing = Keep { kept: Kept::Absent };
-    let mut said = [nothing; SetUp::BOXES as usize];
+    let mut said = [nothing; SetUp::BOXES];
     let mut i = boxes_place(b, k);
     let mut m: usize = 0;
     while m < n {

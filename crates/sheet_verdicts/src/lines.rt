@@ -113,12 +113,12 @@ fn put_last_line(page: &mut [u8], at: usize, q: u16, k: usize, verified: [Keep; 
     requires { ⌜ Recoverable q k at (now page) ⌝ }
     ensures { λ r. ⌜ Puts (now (page .entry)) at (lastLine q k (sharePoints verified)) 72 r (now (page .exit)) ⌝ }
 {
-    let all = interpolation::points::points_kept(verified, k);
+    let all = record_points::points::points_kept(verified, k);
     let count = all.count;
     if count < k {
         return put_no_secret(page, at, count as u16, k as u16);
     }
-    let pair = interpolation::recovered_from(q, k, verified);
+    let pair = record_points::recovered_from(q, k, verified);
     let boxes = all.boxes;
     put_secret(page, at, pair, count, boxes)
 }

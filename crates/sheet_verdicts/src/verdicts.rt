@@ -61,7 +61,7 @@ pub fn verified_shares(
     ensures { λ r. ⌜ r ≡ verifiedShares group k c n shares ⌝ }
 {
     let nothing = Keep { kept: Kept::Absent };
-    let mut made = [nothing; SetUp::BOXES as usize];
+    let mut made = [nothing; SetUp::BOXES];
     let mut m: usize = 0;
     let mut number: u16 = 1;
     while m < n {

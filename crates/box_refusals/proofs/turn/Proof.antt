@@ -93,9 +93,9 @@ is-heard-requires c κs =
     let p = start6 c .pre in
     let b = is-box _ _ (p .box) in
     record {
-      low = p .readable .form .low;
-      high = p .readable .form .high;
-      place = omega (arith, p .readable .ranges .boxes, b .0, b .1);
+      low = p .form .low;
+      high = p .form .high;
+      place = omega (arith, p .ranges .boxes, b .0, b .1);
     }
 
 pub turn-spec : {M : Type 1} → statement M

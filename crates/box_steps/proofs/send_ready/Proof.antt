@@ -42,7 +42,7 @@ send-ready-spec =
     (λ c. search needs)
     (λ c. search needs)
     (λ c κs. let r = ranges (c .before .before .before .before .before .before .pre .0 .here) in
-    (omega (arith, group-ranges r (c .before .before .before .group-of .ensures) .above), r .high, r .boxes))
+    (record { order = omega (arith, group-ranges r (c .before .before .before .group-of .ensures) .above); few = r .high }, r .boxes))
     (λ c κs. search needs)
     (λ c κs. let pre = start (c .before .before .before .before) .pre .0 in can-send (ranges (pre .here)) (pre .room))
     (λ c κs. search needs)

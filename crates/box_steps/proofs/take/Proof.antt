@@ -84,7 +84,7 @@ take-spec =
     (λ c. search needs)
     (λ c. search needs)
     (λ c κs. share-long (c .before .before .before .before .before .pre .0 .hearing .form) (c .if1 .taken))
-    (λ c κs. let start = c .before .before .before .before .before .before in (sender start, unheard start 4 (c .before .if1 .taken)))
+    (λ c κs. sender (c .before .before .before .before .before .before))
     share
     (λ c κs. let h = c .before .before .before .before .before .pre .0 .hearing in
     (sound-ranges _ (h .is-sound) .high, matrix-long (h .form) (c .if1 .left)))

@@ -1,75 +1,29 @@
 -- `take_share` is the step of a checked recovery share. Assumes nothing.
-use mathlib.Core.Path.{_≡_, refl, sym, ap, ap₂, _∙_}
-use mathlib.Core.List.{List}
-use Prim.Native.Nat.{ℕ}
-use native.Mathlib.Omega.{arith}
-use lib.ListN.{length, take}
-use lib.Seq.{take-all}
+use mathlib.Core.Path.{_≡_, ap, _∙_}
+use lib.Dec.{lit≤}
 use borrow.Author.Needs.{needs}
-use borrow.Author.Tests.{eq-eqb, ne-eqb}
-use Rattle.folds.specs.Tests.{pick}
-use Rattle.folds.specs.Runs.{length-gather-count}
-use Rattle.rules.specs.declared.Keep.{Keep}
-use Rattle.rules.specs.declared.Kept.{Kept}
-use Rattle.rules.specs.declared.Kept.the-variants.{Absent, There}
-use Rattle.rules.specs.Record.{shareAt, isThere, sharesKept}
-use Rattle.rules.specs.Steps.{heard, keptAt, sharePoints, recoveredFrom, sharing, recovering, shareStep}
-use Rattle.box_step.specs.Told.{quietly}
+use Rattle.rules.specs.Steps.{heard, recovering, sharing, shareStep}
 use Rattle.box_step.specs.Takes.{made}
-use Rattle.box_steps.specs.Laws.{ranges, place, group-ranges}
+use Rattle.box_steps.specs.Laws.{ranges, place}
 use Rattle.box_steps.proofs.take_share.Statement.{statement}
 use Rattle.box_steps.proofs.take_share.Tie as tie
 
--- there are as many as are kept
-length-sharePoints : (keeps : List Keep) → length (sharePoints keeps) ≡ sharesKept keeps
-unfolding sharePoints sharesKept
-length-sharePoints keeps =
-    length-gather-count (λ m. keptAt m (shareAt keeps m)) (λ m. isThere (shareAt keeps m)) (λ m. one m (shareAt keeps m)) 10
-  where
-    one : (m : ℕ) (kept : Kept) → length (keptAt m kept) ≡ pick (isThere kept) 1 0
-    one m Absent = refl
-    one m (There s) = refl
+returns : tie.Need-returns
+unfolding shareStep heard
+returns c =
+    let a = c .before .before .before .args in
+    c .recovering .ensures ∙ ap (λ y. made (recovering y (sharing (a .x) (a .m) (a .pair)))) (c .before .heard-for .ensures)
 
--- where k are kept, the first k are all
-all-taken : (keeps : List Keep) (k : ℕ) → sharesKept keeps ≡ k → take k (sharePoints keeps) ≡ sharePoints keeps
-all-taken keeps k e = take-all k (sharePoints keeps) (omega (arith, length-sharePoints keeps))
-
-recovers : tie.Need-returns
-unfolding made shareStep recovering heard
-recovers c =
-    let grouped = c .before .before .before in
-    let counted = grouped .before .before .before in
-    let a = counted .before .before .before .args in
-    let kept = sharing (a .x) (a .m) (a .pair) in
-    let all : sharesKept kept ≡ a .x .setup .k = sym (counted .count-shares .ensures) ∙ grouped .before .if1 .taken in
-    let found =
-    c .before .recovered-from .ensures
-    ∙ ap₂ (λ G. recoveredFrom (G .q)) (grouped .group-of .ensures) (all-taken kept (a .x .setup .k) all) in
-    rw (c .heard-with-share .ensures, found, eq-eqb _ _ all)
-
-rests : tie.Need-returns-2
-unfolding made shareStep recovering heard
-rests c =
-    let left = c .before .before .before in
-    let counted = left .before .before in
-    let a = counted .before .before .before .args in
-    let few : sharesKept (sharing (a .x) (a .m) (a .pair)) ≡ a .x .setup .k → ⊥ =
-    λ e. left .if1 .left (counted .count-shares .ensures ∙ e) in
-    rw (ne-eqb _ _ few) (c .quiet .ensures ∙ ap quietly (c .before .heard-with-share2 .ensures))
+recovering-requires : tie.Need-recovering-requires
+unfolding heard
+recovering-requires c κs = rw (c .heard-for .ensures) (ranges (c .before .before .pre))
 
 pub take-share-spec : {M : Type 1} → statement M
 take-share-spec =
     tie.close
     (tie.spec
     (λ c. search needs)
-    (λ c. place (c .before .before .pre .0))
-    (λ c κs. search needs)
-    (λ c κs. ranges (c .before .before .before .before .before .pre .0) .group)
-    (λ c. search needs)
-    (λ c κs. let r = ranges (c .before .before .before .before .before .before .before .pre .0) in
-    (omega (arith, group-ranges r (c .before .group-of .ensures) .above), r .high))
-    (λ c κs. place (c .before .before .before .before .before .before .before .before .pre .0))
-    recovers
-    (λ c κs. place (c .before .before .before .before .before .before .pre .0))
-    (λ c κs. search needs)
-    rests)
+    (λ c. place (c .before .pre))
+    (λ c κs. record { least = lit≤ tt; most = lit≤ tt; sender = place (c .before .pre) })
+    recovering-requires
+    returns)

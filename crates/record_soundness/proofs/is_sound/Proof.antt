@@ -11,7 +11,7 @@ use Rattle.rules.specs.declared.Record.{Record}
 use Rattle.rules.specs.Numbers.{groupOf, groupKeeps, numbersKeep}
 use Rattle.rules.specs.Record.{groupIn, sound}
 use Rattle.rules.specs.Laws.Numbers.{bounds, group-rule}
-use Rattle.record_reading.specs.Slots.{everySlot, slotKeeps}
+use Rattle.record_clauses.specs.Clauses.{everySlot, slotKeeps}
 use Rattle.record_soundness.specs.Clauses.{recoveryPasses, sendersClear}
 use Rattle.record_soundness.specs.Sound.{Tests, tests, tests-sound}
 use Rattle.record_soundness.proofs.is_sound.Statement.{statement}

@@ -25,8 +25,8 @@ use Rattle.rules.specs.Messages.{tagIn, hasMatrix, written}
 use Rattle.rules.specs.Record.{noMarks, marked, heardFor, zeroRecord}
 use Rattle.rules.specs.Steps.{Step, mark, heard}
 use Rattle.rules.specs.Laws.Shape.{Shaped}
-use Rattle.rules.specs.Answers.{Refusal, firstRow, firstOf, Done, done, noPair, accepted, refused, outcomeOf, answered, setUpRows, setUp, SetsUp, callRows, ownDealRows, dealRows, deal, Deals, ownRecoverRows, recoverRows, recover, Recovers, formRows, turnRows, hearingRows, earlyRows, deliverRows, refusalHeard, deliver, Delivers, DeliversLent}
-use Rattle.rules.specs.Laws.Table.{row, noneBefore, none, lacks, distinct, numbers, first-row, first-none, marksBy, first-marks, among}
+use Rattle.rules.specs.Answers.{Refusal, firstRow, firstOf, Done, done, noPair, accepted, refused, outcomeOf, answered, setUpRows, setUp, SetsUp, callRows, ownDealRows, dealRows, deal, Deals, ownRecoverRows, recoverRows, recover, Recovers, formRows, turnRows, hearingTests, hearingRows, earlyRows, deliverRows, refusalHeard, deliver, Delivers, DeliversLent}
+use Rattle.rules.specs.Laws.Table.{row, noneBefore, none, lacks, distinct, numbers, first-row, first-none, marksBy, first-marks, each, marking-by, among}
 
 -- ---- (a) and (c): which number a call gives
 
@@ -164,11 +164,10 @@ test-heard n tag t = (and-left _ (leb tag 3) t, leb-true tag 3 (and-right (among
 -- The rows of a delivery that mark the sender heard.
 pub deliver-marks : (x : Record) (sender : ℕ) (bytes : List ℕ) (lent : ℕ)
     → firstRow (deliverRows x sender bytes lent) .marks ≡ toHear (firstOf (deliverRows x sender bytes lent)) (tagIn bytes)
-unfolding deliverRows earlyRows callRows formRows turnRows hearingRows marksBy lacks
+unfolding deliverRows earlyRows callRows formRows turnRows hearingRows marksBy lacks each
 deliver-marks x sender bytes lent =
     first-marks (λ n. toHear n (tagIn bytes)) (deliverRows x sender bytes lent) refl
-    (and-intro _ _ (eq-same (hasMatrix (tagIn bytes)) _ refl)
-    (and-intro _ _ (eq-same (hasMatrix (tagIn bytes)) _ refl) (and-intro _ _ (eq-same (hasMatrix (tagIn bytes)) _ refl) refl)))
+    (marking-by (among atHearing) (hasMatrix (tagIn bytes)) (hearingTests x sender bytes) refl)
 
 pub marked-tag : (x : Record) (sender : ℕ) (bytes : List ℕ) (lent : ℕ) → firstRow (deliverRows x sender bytes lent) .marks ≡ true → tagIn bytes ≤ 3
 marked-tag x sender bytes lent e =

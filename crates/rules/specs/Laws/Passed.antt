@@ -11,16 +11,16 @@ use Prim.Native.Nat.{ℕ, _-_, _<_, _≤_}
 use native.Mathlib.Omega.{arith}
 use lib.Dec.{eqb}
 use borrow.Author.Tests.{le-leb, eq-eqb, eqb-true, ltb-false, not-false, ne-eqb}
-use Rattle.folds.specs.Tests.{_and_, and-rest, or-false, eq-same, and-intro, false-unless}
+use Rattle.folds.specs.Tests.{_and_, and-rest, or-false, false-unless}
 use Rattle.rules.specs.declared.Record.{Record}
 use Rattle.rules.specs.Numbers.{isBox}
 use Rattle.rules.specs.Messages.{tagIn, hasMatrix, foreign, matrixIn, messageIn}
 use Rattle.rules.specs.Dealing.{matrixPasses, coinsKeep}
 use Rattle.rules.specs.Record.{groupIn, heardFor, isDone, isThere, sound}
-use Rattle.rules.specs.Answers.{Refusal, firstRow, firstOf, callRows, ownDealRows, dealRows, ownRecoverRows, recoverRows, exponentsKeep, checks, formRows, turnRows, hearingRows, earlyRows, deliverRows, refusalHeard}
+use Rattle.rules.specs.Answers.{Refusal, firstRow, firstOf, callRows, ownDealRows, dealRows, ownRecoverRows, recoverRows, exponentsKeep, checks, formRows, turnRows, hearingTests, hearingRows, earlyRows, deliverRows, refusalHeard}
 use Rattle.rules.specs.Laws.Numbers.{is-box}
 use Rattle.rules.specs.Laws.RoundTrip.{formed, Formed}
-use Rattle.rules.specs.Laws.Table.{row, lacks, numbers, first-none, past, both-passed, marksBy, nobody, marked-behind, first-before, first-behind, first-marks, unmarked}
+use Rattle.rules.specs.Laws.Table.{row, lacks, numbers, first-none, past, both-passed, marksBy, each, marking-by, nobody, marked-behind, first-before, first-behind, first-marks, unmarked}
 
 -- ---- commands
 
@@ -149,11 +149,10 @@ marked-hearing x sender bytes lent e =
 -- at the hearing every row marks the sender heard, if the message has a matrix
 hearing-marks : (x : Record) (sender : ℕ) (bytes : List ℕ)
     → firstRow (hearingRows x sender bytes) .marks ≡ not (eqb (firstOf (hearingRows x sender bytes)) 0) and hasMatrix (tagIn bytes)
-unfolding hearingRows marksBy
+unfolding hearingRows each
 hearing-marks x sender bytes =
-    let same-mark = eq-same (hasMatrix (tagIn bytes)) (hasMatrix (tagIn bytes)) refl in
     first-marks (λ n. not (eqb n 0) and hasMatrix (tagIn bytes)) (hearingRows x sender bytes) refl
-    (and-intro _ _ same-mark (and-intro _ _ same-mark (and-intro _ _ same-mark refl)))
+    (marking-by (λ n. not (eqb n 0)) (hasMatrix (tagIn bytes)) (hearingTests x sender bytes) refl)
 
 module _ (x : Record) (sender : ℕ) (bytes : List ℕ) (lent : ℕ) where
   -- before the hearing it is as it came,

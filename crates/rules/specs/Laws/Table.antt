@@ -10,8 +10,8 @@ use mathlib.Core.Logic.{_↔_, _≢_, ⊎-elim}
 use Prim.Native.Nat.{ℕ}
 use lib.Dec.{eqb}
 use borrow.Author.Tests.{eqb-true, eqb-false, not-true}
-use Rattle.folds.specs.Tests.{_and_, pick, pick-either, same, true≢false, and-left, and-right, same-eq, decide}
-use Rattle.rules.specs.Answers.{Refusal, firstRow, firstOf}
+use Rattle.folds.specs.Tests.{_and_, pick, pick-either, same, true≢false, and-left, and-right, and-intro, same-eq, eq-same, decide}
+use Rattle.rules.specs.Answers.{Refusal, marking, firstRow, firstOf}
 
 -- ---- the rows of a table by their numbers
 
@@ -153,6 +153,18 @@ first-marks rule (y ∷ ys) z h =
     go : (b : Bool) → firstRow ys .marks ≡ rule (firstOf ys) → pick b y (firstRow ys) .marks ≡ rule (pick b y (firstRow ys) .number)
     go true ih = same-eq (y .marks) (rule (y .number)) (and-left _ (marksBy rule ys) h)
     go false ih = ih
+
+-- Rows that mark alike do so by their numbers, where a test passes each of these.
+unfoldable pub each : (ℕ → Bool) → List ℕ → Bool
+each test [] = true
+each test (n ∷ ns) = test n and each test ns
+
+pub marking-by : (test : ℕ → Bool) (m : Bool) (xs : List Refusal) → each test (numbers xs) ≡ true → marksBy (λ n. test n and m) (map (marking m) xs) ≡ true
+unfolding marksBy each
+marking-by test m [] h = refl
+marking-by test m (y ∷ ys) h =
+    and-intro _ _ (eq-same m _ (sym (ap (λ b. b and m) (and-left (test (y .number)) (each test (numbers ys)) h))))
+    (marking-by test m ys (and-right (test (y .number)) (each test (numbers ys)) h))
 
 -- Rows that mark nobody, in front of others.
 abbrev pub nobody : List Refusal → Bool

@@ -3,7 +3,7 @@ use Prim.Native.Nat.{_*_, _≤_}
 use native.Mathlib.Nat.{mul-le-mul}
 use native.Mathlib.Omega.{arith}
 use borrow.Author.Needs.{needs}
-use Rattle.folds.specs.Found.{found3}
+use Rattle.folds.specs.Found.{found4}
 use Rattle.classes.proofs.room.message.Statement.{statement}
 use Rattle.classes.proofs.room.message.Tie as tie
 
@@ -13,7 +13,7 @@ nine c = mul-le-mul {n₂ = 9} {m₂ = 199} (omega arith) (omega arith)
 pub message-spec : {M : Type 1} → statement M
 message-spec =
     tie.close
-    (found3 tie.spec (search needs)
+    (found4 tie.spec (search needs)
     (λ c. let h = nine c in search needs)
     (λ c. let h = nine c in search needs)
     (λ c. let h = nine c in search needs))

@@ -8,7 +8,7 @@ use Rattle.folds.specs.Found.{found3}
 use Rattle.folds.specs.Below.{allBelow}
 use Rattle.rules.specs.declared.Record.{Record}
 use Rattle.rules.specs.Record.{heardFor, senderZero}
-use Rattle.record_reading.specs.Slots.{everySlot}
+use Rattle.record_clauses.specs.Clauses.{everySlot}
 use Rattle.record_soundness.specs.Clauses.{heardClear}
 use Rattle.record_soundness.proofs.clauses.sender_zero.Statement.{statement}
 use Rattle.record_soundness.proofs.clauses.sender_zero.Tie as tie

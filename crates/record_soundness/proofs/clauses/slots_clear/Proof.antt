@@ -8,7 +8,8 @@ use Rattle.folds.specs.Found.{found3}
 use Rattle.folds.specs.Tests.{failed, passed}
 use Rattle.folds.specs.Below.{allBelow, allBelow-zero, allBelow-more}
 use Rattle.folds.specs.Loops.{all-fails, all-passed}
-use Rattle.record_reading.specs.Slots.{slotIn, everySlot}
+use Rattle.record_reading.specs.Slots.{slotIn}
+use Rattle.record_clauses.specs.Clauses.{everySlot}
 use Rattle.record_soundness.specs.Clauses.{slotClear}
 use Rattle.record_soundness.proofs.clauses.slots_clear.Statement.{statement}
 use Rattle.record_soundness.proofs.clauses.slots_clear.Tie as tie

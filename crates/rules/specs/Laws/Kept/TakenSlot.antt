@@ -25,7 +25,7 @@ use Rattle.rules.specs.declared.Slot.{Slot}
 use Rattle.rules.specs.Numbers.{groupOf, echoQuorum}
 use Rattle.rules.specs.Dealing.{fourBelow}
 use Rattle.rules.specs.Record.{silent, marked, placeAt, matrixOf, isHeld, held, countE, countR, pointBelow, entriesZero}
-use Rattle.rules.specs.Steps.{mark, firstPoint, hit, taken, keeping, readyDue}
+use Rattle.rules.specs.Steps.{mark, firstPoint, sideMarks, taken, keeping, readyDue}
 use Rattle.rules.specs.Laws.Shape.{ShapedSlot}
 use Rattle.rules.specs.declared.Side.{Side}
 use Rattle.rules.specs.declared.Side.the-variants.{ByEcho, ByReady}
@@ -55,38 +55,38 @@ module _ (ms : Marks) (shape : length (ms .at) ≡ 10) (m : ℕ) (l : m < 10) wh
   pub mark-other : (i : ℕ) → (i ≡ m → ⊥) → marked (mark ms m) i ≡ marked ms i
   mark-other i n = getD-set-other (ms .at) m i true false n
 
-  hit-own : (b : Side) → marked (hit b b ms m) m ≡ true
-  hit-own ByEcho = mark-own
-  hit-own ByReady = mark-own
+  side-marks-own : (b : Side) → marked (sideMarks b b ms m) m ≡ true
+  side-marks-own ByEcho = mark-own
+  side-marks-own ByReady = mark-own
 
-  hit-other : (a b : Side) (i : ℕ) → (i ≡ m → ⊥) → marked (hit a b ms m) i ≡ marked ms i
-  hit-other ByEcho ByEcho i n = mark-other i n
-  hit-other ByEcho ByReady i n = refl
-  hit-other ByReady ByEcho i n = refl
-  hit-other ByReady ByReady i n = mark-other i n
+  side-marks-other : (a b : Side) (i : ℕ) → (i ≡ m → ⊥) → marked (sideMarks a b ms m) i ≡ marked ms i
+  side-marks-other ByEcho ByEcho i n = mark-other i n
+  side-marks-other ByEcho ByReady i n = refl
+  side-marks-other ByReady ByEcho i n = refl
+  side-marks-other ByReady ByReady i n = mark-other i n
 
-  hit-length : (a b : Side) → length (hit a b ms m .at) ≡ 10
-  hit-length ByEcho ByEcho = length-set (ms .at) m true ∙ shape
-  hit-length ByEcho ByReady = shape
-  hit-length ByReady ByEcho = shape
-  hit-length ByReady ByReady = length-set (ms .at) m true ∙ shape
+  side-marks-length : (a b : Side) → length (sideMarks a b ms m .at) ≡ 10
+  side-marks-length ByEcho ByEcho = length-set (ms .at) m true ∙ shape
+  side-marks-length ByEcho ByReady = shape
+  side-marks-length ByReady ByEcho = shape
+  side-marks-length ByReady ByReady = length-set (ms .at) m true ∙ shape
 
   -- a mark is the new one or was there, and one that was there stays
-  hit-cases : (a b : Side) (i : ℕ) → marked (hit a b ms m) i ≡ true → ((a ≡ b) × (i ≡ m)) ⊎ (marked ms i ≡ true)
-  hit-cases a b i e = go a b (ℕ-discrete i m) e
+  side-marks-cases : (a b : Side) (i : ℕ) → marked (sideMarks a b ms m) i ≡ true → ((a ≡ b) × (i ≡ m)) ⊎ (marked ms i ≡ true)
+  side-marks-cases a b i e = go a b (ℕ-discrete i m) e
     where
-      go : (a b : Side) → Dec (i ≡ m) → marked (hit a b ms m) i ≡ true → ((a ≡ b) × (i ≡ m)) ⊎ (marked ms i ≡ true)
-      go a b (no n) e = inr (sym (hit-other a b i n) ∙ e)
+      go : (a b : Side) → Dec (i ≡ m) → marked (sideMarks a b ms m) i ≡ true → ((a ≡ b) × (i ≡ m)) ⊎ (marked ms i ≡ true)
+      go a b (no n) e = inr (sym (side-marks-other a b i n) ∙ e)
       go ByEcho ByEcho (yes q) e = inl (refl, q)
       go ByEcho ByReady (yes q) e = inr e
       go ByReady ByEcho (yes q) e = inr e
       go ByReady ByReady (yes q) e = inl (refl, q)
 
-  hit-stays : (a b : Side) (i : ℕ) → marked ms i ≡ true → marked (hit a b ms m) i ≡ true
-  hit-stays ByEcho ByEcho i e = mark-stays ms m i e
-  hit-stays ByEcho ByReady i e = e
-  hit-stays ByReady ByEcho i e = e
-  hit-stays ByReady ByReady i e = mark-stays ms m i e
+  side-marks-stays : (a b : Side) (i : ℕ) → marked ms i ≡ true → marked (sideMarks a b ms m) i ≡ true
+  side-marks-stays ByEcho ByEcho i e = mark-stays ms m i e
+  side-marks-stays ByEcho ByReady i e = e
+  side-marks-stays ByReady ByEcho i e = e
+  side-marks-stays ByReady ByReady i e = mark-stays ms m i e
 
 -- ---- the slot that took a message
 
@@ -104,7 +104,7 @@ marks-shape : (a : Side) (slot : Slot) → ShapedSlot slot → length (marksOf a
 marks-shape ByEcho slot shape = shape .echoed
 marks-shape ByReady slot shape = shape .readied
 
-taken-marks : (a b : Side) (slot : Slot) (m : ℕ) (f : Four) → marksOf a (taken b slot m f) ≡ hit a b (marksOf a slot) m
+taken-marks : (a b : Side) (slot : Slot) (m : ℕ) (f : Four) → marksOf a (taken b slot m f) ≡ sideMarks a b (marksOf a slot) m
 taken-marks ByEcho b slot m f = refl
 taken-marks ByReady b slot m f = refl
 
@@ -127,13 +127,13 @@ module _ (b : Side) (slot : Slot) (shape : ShapedSlot slot) (m : ℕ) (l : m < 1
   held-own : held (taken b slot m f) m ≡ true
   held-own = ap isHeld place-own ∙ first-held (placeAt slot m .point) f
 
-  either-own : (c : Side) → marked (hit ByEcho c (slot .echoed) m) m or marked (hit ByReady c (slot .readied) m) m ≡ true
+  either-own : (c : Side) → marked (sideMarks ByEcho c (slot .echoed) m) m or marked (sideMarks ByReady c (slot .readied) m) m ≡ true
   either-own ByEcho = or-left _ _ (mark-own (slot .echoed) (shape .echoed) m l)
   either-own ByReady = or-right (marked (slot .echoed) m) _ (mark-own (slot .readied) (shape .readied) m l)
 
   -- It marks the sender, and whom it marked before.
   pub taken-cases : (a : Side) (i : ℕ) → marked (marksOf a (taken b slot m f)) i ≡ true → ((a ≡ b) × (i ≡ m)) ⊎ (marked (marksOf a slot) i ≡ true)
-  taken-cases a i e = hit-cases (marksOf a slot) (marks-shape a slot shape) m l a b i (ap (λ (ms : Marks). marked ms i) (sym (taken-marks a b slot m f)) ∙ e)
+  taken-cases a i e = side-marks-cases (marksOf a slot) (marks-shape a slot shape) m l a b i (ap (λ (ms : Marks). marked ms i) (sym (taken-marks a b slot m f)) ∙ e)
 
   -- Its arrays are as long as they were.
   pub taken-shape : ShapedSlot (taken b slot m f)
@@ -142,8 +142,8 @@ module _ (b : Side) (slot : Slot) (shape : ShapedSlot slot) (m : ℕ) (l : m < 1
         rows = shape .rows;
         row = shape .row;
         places = length-set (slot .places) m _ ∙ shape .places;
-        echoed = hit-length (slot .echoed) (shape .echoed) m l ByEcho b;
-        readied = hit-length (slot .readied) (shape .readied) m l ByReady b;
+        echoed = side-marks-length (slot .echoed) (shape .echoed) m l ByEcho b;
+        readied = side-marks-length (slot .readied) (shape .readied) m l ByReady b;
       }
 
   -- ---- its counts
@@ -152,15 +152,15 @@ module _ (b : Side) (slot : Slot) (shape : ShapedSlot slot) (m : ℕ) (l : m < 1
   pub count-grows : (a : Side) → countOf a slot ≤ countOf a (taken b slot m f)
   count-grows a =
       rw (count-is a slot, count-is a (taken b slot m f), taken-marks a b slot m f)
-      (countBelow-mono _ _ 10 (λ i g e. hit-stays (marksOf a slot) (marks-shape a slot shape) m l a b i e))
+      (countBelow-mono _ _ 10 (λ i g e. side-marks-stays (marksOf a slot) (marks-shape a slot shape) m l a b i e))
 
   -- That of the side goes up by one if the sender was not marked, and that of the other stays.
   pub count-up : marked (marksOf b slot) m ≡ false → countOf b (taken b slot m f) ≡ countOf b slot + 1
   count-up e =
       rw (count-is b slot, count-is b (taken b slot m f), taken-marks b b slot m f)
       (countBelow-up _ _ m 10 l e
-      (hit-own (marksOf b slot) (marks-shape b slot shape) m l b)
-      (hit-other (marksOf b slot) (marks-shape b slot shape) m l b b))
+      (side-marks-own (marksOf b slot) (marks-shape b slot shape) m l b)
+      (side-marks-other (marksOf b slot) (marks-shape b slot shape) m l b b))
 
 count-other : (b : Side) (slot : Slot) (m : ℕ) (f : Four) → countOf (other b) (taken b slot m f) ≡ countOf (other b) slot
 unfolding countE countR
@@ -194,10 +194,10 @@ module _ (u : SetUp) (z : Needed u) (b : Side) (slot : Slot) (o : OpenFacts u sl
       points i g (yes e) = rw (e, place-own b slot (o .shape) m low f) (first-below _ (placeAt slot m .point) f (o .contents .points m low) below)
       points i g (no n) = rw (place-other b slot (o .shape) m low f i n) (o .contents .points i g)
 
-      places : (i : ℕ) → i < 10 → Dec (i ≡ m) → held (taken b slot m f) i ≡ marked (hit ByEcho b (slot .echoed) m) i or marked (hit ByReady b (slot .readied) m) i
+      places : (i : ℕ) → i < 10 → Dec (i ≡ m) → held (taken b slot m f) i ≡ marked (sideMarks ByEcho b (slot .echoed) m) i or marked (sideMarks ByReady b (slot .readied) m) i
       places i g (yes e) = rw e (held-own b slot (o .shape) m low f ∙ sym (either-own b slot (o .shape) m low f b))
       places i g (no n) =
-          rw (place-other b slot (o .shape) m low f i n, hit-other (slot .echoed) (o .shape .echoed) m low ByEcho b i n, hit-other (slot .readied) (o .shape .readied) m low ByReady b i n)
+          rw (place-other b slot (o .shape) m low f i n, side-marks-other (slot .echoed) (o .shape .echoed) m low ByEcho b i n, side-marks-other (slot .readied) (o .shape .readied) m low ByReady b i n)
           (o .contents .places i g)
 
 -- ---- when a pair is kept

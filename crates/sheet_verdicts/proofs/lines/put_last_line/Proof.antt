@@ -11,8 +11,8 @@ use Rattle.rules.specs.declared.Pair.{Pair}
 use Rattle.rules.specs.Steps.{Said, sharePoints, recoveredFrom}
 use Rattle.rules.specs.Text.{text, decimal}
 use Rattle.rules.specs.Sheet.{secretLine, noSecretLine, lastLine}
-use Rattle.interpolation.specs.declared.lagrange.Points.{Points}
-use Rattle.interpolation.specs.Points.{pointsOf, inArray-at}
+use Rattle.interpolation.specs.declared.Points.{Points}
+use Rattle.record_points.specs.Points.{pointsOf, inArray-at}
 use Rattle.sheet_verdicts.specs.Lines.{boxesText, secretText}
 use Rattle.sheet_verdicts.proofs.lines.put_last_line.Statement.{statement}
 use Rattle.sheet_verdicts.proofs.lines.put_last_line.Tie as tie

@@ -1,0 +1,2 @@
+-- What only the proofs of the order name.
+pub mod Known
