@@ -34,6 +34,7 @@ pub fn difference(q: u16, x: Exponent, y: Exponent) -> Exponent
     sum(q, x, Exponent(q - y.0))
 }
 
+// x y modulo q.
 pub fn product(q: u16, x: Exponent, y: Exponent) -> Exponent
     requires { ⌜ 0 < q ⌝ }
     ensures { λ r. ⌜ r ≡ exponent ((x .0 * y .0) % q) ⌝ }

@@ -3,7 +3,6 @@
 use rules::Outcome;
 use rules::Record;
 use rules::SetUp;
-ghost use mathlib.Core.Path.{_≡_};
 ghost use Rattle.rules.specs.Answers.{SetsUp, Deals, Recovers, Delivers};
 
 // Refusals 11, 12. A refused set-up gives the all-zero record.

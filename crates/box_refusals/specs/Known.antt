@@ -1,9 +1,9 @@
--- What is known of a delivery past rows 1 to 3, and of a mark.
+-- What is known of a delivery past rows 1 to 3.
 -- Assumes nothing.
 use mathlib.Core.Path.{_≡_}
 use mathlib.Core.Bool.{true}
 use mathlib.Core.List.{List}
-use Prim.Native.Nat.{ℕ, _<_, _≤_}
+use Prim.Native.Nat.{ℕ}
 use Rattle.rules.specs.declared.SetUp.{SetUp}
 use Rattle.rules.specs.Numbers.{isBox}
 use Rattle.rules.specs.Laws.Numbers.{Ranges}
@@ -14,9 +14,3 @@ pub record InForm (u : SetUp) (sender : ℕ) (bytes : List ℕ) : Type 0 where
   pub ranges : Ranges u
   pub form : Formed u bytes
   pub box : isBox u sender ≡ true
-
--- a tag and a sender's index have their mark
-pub record Marked (tag m : ℕ) : Type 0 where
-  pub low : 1 ≤ tag
-  pub high : tag ≤ 4
-  pub place : m < 10

@@ -3,10 +3,9 @@
 use rules::Record;
 use rules::SetUp;
 ghost use mathlib.Core.Path.{_≡_};
-ghost use Rattle.rules.specs.Record.{heardFor};
 ghost use Rattle.rules.specs.Answers.{firstOf, setUpRows, ownDealRows, ownRecoverRows, formRows, turnRows};
 ghost use Rattle.rules.specs.Laws.Numbers.{Ranges};
-ghost use Rattle.box_refusals.specs.Known.{InForm, Marked};
+ghost use Rattle.box_refusals.specs.Known.{InForm};
 
 // 11, 12.
 pub fn set_up(u: SetUp) -> u8
@@ -72,15 +71,6 @@ pub fn form(u: SetUp, sender: u32, bytes: &[u8]) -> u8
     0
 }
 
-fn is_heard(x: Record, tag: u8, m: usize) -> bool
-    requires { ⌜ Marked tag m ⌝ }
-    ensures { λ r. ⌜ r ≡ heardFor x tag m ⌝ }
-{
-    let at = tag as usize - 1;
-    let marks = x.heard[at];
-    marks.at[m]
-}
-
 // 4 to 7: its sender may say it now.
 pub fn turn(x: Record, sender: u32, bytes: &[u8]) -> u8
     requires { ⌜ InForm (x .setup) sender (now bytes) ⌝ }
@@ -102,7 +92,7 @@ pub fn turn(x: Record, sender: u32, bytes: &[u8]) -> u8
         return 6;
     }
     let m = (sender - 1) as usize;
-    if is_heard(x, tag, m) {
+    if record_reading::is_heard(x, tag, m) {
         return 7;
     }
     0

@@ -8,7 +8,6 @@ use rules::Pair;
 use rules::Record;
 use rules::Sent;
 ghost use mathlib.Core.Path.{_≡_};
-ghost use Rattle.rules.specs.Record.{isThere};
 ghost use Rattle.rules.specs.Answers.{noPair, pairTold, refused};
 ghost use Rattle.box_step.specs.Told.{quietly, sends, told};
 
@@ -28,6 +27,7 @@ pub fn quiet(after: Record) -> Step
     sending(after, Sent::Nothing, 0)
 }
 
+// One that changes the record and has written so many bytes.
 pub fn sending(after: Record, sent: Sent, bytes: usize) -> Step
     ensures { λ r. ⌜ r ≡ sends after sent bytes ⌝ }
 {
@@ -50,15 +50,6 @@ fn no_pair() -> Pair
     }
 }
 
-fn is_there(kept: Kept) -> bool
-    ensures { λ r. ⌜ r ≡ isThere kept ⌝ }
-{
-    match kept {
-        Kept::Absent => false,
-        Kept::There(_) => true,
-    }
-}
-
 fn pair_told(kept: Kept) -> Pair
     ensures { λ r. ⌜ r ≡ pairTold kept ⌝ }
 {
@@ -74,7 +65,7 @@ pub fn accept(step: Step) -> Outcome
 {
     let keep = step.recovered;
     let kept = keep.kept;
-    let recovered = is_there(kept);
+    let recovered = record_reading::is_there(keep);
     let pair = pair_told(kept);
     let sent = step.sent;
     let next = step.after;

@@ -11,7 +11,7 @@ ghost use Prim.Native.Nat.{_+_, _%_, _≤_, _<_};
 ghost use Rattle.folds.specs.Below.{allBelow};
 ghost use Rattle.rules.specs.Numbers.{element};
 ghost use Rattle.rules.specs.Matrices.{row, entry};
-ghost use Rattle.rules.specs.Dealing.{inGroup, matrixPasses, coefficientsBelow, polynomialsBelow, fourBelow, pairBelow, opens, alongRow, lEquation, jEquation, polynomialCheck, openedAt, αEquation, βEquation, pointCheck, shareCheck};
+ghost use Rattle.rules.specs.Dealing.{inGroup, matrixPasses, coefficientsBelow, polynomialsBelow, fourBelow, pairBelow, opens, lEquation, jEquation, polynomialCheck, openedAt, αEquation, βEquation, pointCheck, shareCheck};
 ghost use Rattle.checking.specs.Equations.{Checkable, Line, elementAt, alongPart, alongLine, equation};
 
 type Matrix = [[Element; 8]; 8];

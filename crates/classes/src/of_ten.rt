@@ -2,6 +2,7 @@
 use crate::coins;
 use rules::SetUp;
 
+// Box 1 deals, every message reaches every box, and all are commanded.
 pub fn class() {
     let all = coins::rising(11, 37);
     let u = SetUp {

@@ -28,6 +28,7 @@ pub fn new_bench() -> Bench {
     Bench { x, lent: 2048 }
 }
 
+// For a line that is no command.
 pub fn bad_line() {
     printing::words(b"bad line\n");
 }

@@ -11,10 +11,12 @@ use rules::Polynomials;
 ghost use Prim.Native.Nat.{_≤_, _<_};
 ghost use Rattle.checking.specs.Equations.{Checkable};
 
+// The number that stands at this place of a list.
 pub fn listed(at: usize, x: u16) {
     printing::listed(b", ", at, x as usize);
 }
 
+// In brackets.
 pub fn pair(pair: Pair) {
     words(b"(");
     printing::pair(b", ", pair);
@@ -44,6 +46,7 @@ fn coefficients(at: usize, k: usize, a: [Exponent; 8])
     }
 }
 
+// The coefficients of a, a', b, b', one list.
 pub fn polynomials(k: usize, all: Polynomials)
     requires { ⌜ k ≤ 8 ⌝ }
 {
@@ -100,6 +103,7 @@ fn verdict(passes: bool) {
     }
 }
 
+// Of box m.
 pub fn share_checked(group: Group, k: usize, c: [[Element; 8]; 8], m: u16, share: Pair)
     requires { ⌜ Checkable group k c ⌝ }
 {

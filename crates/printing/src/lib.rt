@@ -8,6 +8,7 @@ use rules::Pair;
 use rules::Sent;
 ghost use Prim.Native.Nat.{_≤_};
 
+// On standard output.
 pub fn words(text: &[u8]) {
     io::write_all(1, text);
 }
@@ -30,6 +31,7 @@ pub fn numbered(word: &[u8], x: usize) {
 
 // ---- lists: `between` stands before every number but the first, which stands at 0
 
+// The number that stands at this place of a list.
 pub fn listed(between: &[u8], at: usize, x: usize) {
     if 0 < at {
         words(between);
@@ -37,6 +39,7 @@ pub fn listed(between: &[u8], at: usize, x: usize) {
     number(x);
 }
 
+// A list of two.
 pub fn pair(between: &[u8], pair: Pair) {
     let first = pair.first;
     let second = pair.second;
@@ -73,6 +76,7 @@ pub fn tag_of(sent: Sent) -> u8
     }
 }
 
+// The word of a tag, with a space before it.
 pub fn tag_word(tag: u8) {
     match tag {
         1 => words(b" send"),

@@ -25,6 +25,7 @@ fn point_below(q: u16, place: Place) -> bool
     }
 }
 
+// Of a kept pair; where none is kept there is nothing to break.
 pub fn kept_below(q: u16, keep: Keep) -> bool
     ensures { λ r. ⌜ r ≡ keptBelow q (keep .kept) ⌝ }
 {
@@ -204,6 +205,7 @@ fn slot_keeps(group: Group, u: SetUp, slot: Slot) -> bool
         && entries_zero(k, slot)
 }
 
+// Of each of the twenty.
 pub fn slots_keep(group: Group, u: SetUp, slots: [Slot; 20]) -> bool
     requires { ⌜ (0 < group .p) × Sizes (u .n) (u .t) (u .k) ⌝ }
     ensures { λ r. ⌜ r ≡ everySlot slots (slotKeeps group u) ⌝ }

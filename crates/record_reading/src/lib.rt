@@ -6,15 +6,18 @@ use rules::Kept;
 use rules::Marks;
 use rules::Place;
 use rules::Point;
+use rules::Record;
 use rules::Row;
 use rules::SetUp;
 use rules::Slot;
 ghost use mathlib.Core.Path.{_≡_};
 ghost use mathlib.Core.List.{map};
 ghost use Prim.Native.Nat.{_≤_};
-ghost use Rattle.rules.specs.Record.{rowAt, isHeld, isThere, isDone, sharesKept, sameMatrix};
+ghost use Rattle.rules.specs.Record.{rowAt, heardFor, isHeld, isThere, isDone, sharesKept, sameMatrix};
+ghost use Rattle.rules.specs.Laws.Shape.{HasMark};
 ghost use Rattle.record_reading.specs.Slots.{countMarks, sameRow, hasMatrix};
 
+// A silent place holds nothing, whatever the numbers of a held one are.
 pub fn is_held(place: Place) -> bool
     ensures { λ r. ⌜ r ≡ isHeld (place .point) ⌝ }
 {
@@ -25,6 +28,7 @@ pub fn is_held(place: Place) -> bool
     }
 }
 
+// A pair is kept.
 pub fn is_there(keep: Keep) -> bool
     ensures { λ r. ⌜ r ≡ isThere (keep .kept) ⌝ }
 {
@@ -35,6 +39,7 @@ pub fn is_there(keep: Keep) -> bool
     }
 }
 
+// The box has completed.
 pub fn is_done(completion: Completion) -> bool
     ensures { λ r. ⌜ r ≡ isDone completion ⌝ }
 {
@@ -42,6 +47,16 @@ pub fn is_done(completion: Completion) -> bool
         Completion::NotYet => false,
         Completion::With(_) => true,
     }
+}
+
+// Whether sender m + 1 is heard for the tag.
+pub fn is_heard(x: Record, tag: u8, m: usize) -> bool
+    requires { ⌜ HasMark tag m ⌝ }
+    ensures { λ r. ⌜ r ≡ heardFor x tag m ⌝ }
+{
+    let at = tag as usize - 1;
+    let marks = x.heard[at];
+    marks.at[m]
 }
 
 // How many recovery shares are kept.

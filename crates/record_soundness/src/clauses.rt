@@ -75,6 +75,7 @@ fn kind_keeps(marks: [Marks; 20], heard: Marks) -> bool
     true
 }
 
+// Of echoes, and of readies.
 pub fn marks_keep(x: Record) -> bool
     ensures { λ r. ⌜ r ≡ marksKeep x ⌝ }
 {
@@ -91,6 +92,7 @@ pub fn marks_keep(x: Record) -> bool
 
 // ---- a completed box has one completed matrix in use, with r ≥ k + t
 
+// A box that has not completed breaks nothing.
 pub fn completion_keeps(x: Record) -> bool
     requires { ⌜ x .setup .k + x .setup .t ≤ 20 ⌝ }
     ensures { λ r. ⌜ r ≡ completionKeeps x (x .progress .completion) ⌝ }
@@ -163,6 +165,7 @@ pub fn recovery_keeps(q: u16, x: Record) -> bool
 
 // ---- only box d has dealt
 
+// A box that has not dealt breaks nothing.
 pub fn dealt_keeps(x: Record) -> bool
     ensures { λ r. ⌜ r ≡ dealtKeeps x ⌝ }
 {
@@ -233,6 +236,7 @@ fn sender_zero(x: Record, m: usize) -> bool
     !record_reading::is_there(share)
 }
 
+// Of each sender above n.
 pub fn senders_zero(x: Record) -> bool
     ensures { λ r. ⌜ r ≡ sendersClear x ⌝ }
 {

@@ -3,7 +3,7 @@
 use mathlib.Core.Path.{_≡_}
 use mathlib.Core.Bool.{true}
 use mathlib.Core.List.{List}
-use Prim.Native.Nat.{ℕ, _-_, _<_, _≤_}
+use Prim.Native.Nat.{ℕ, _-_, _<_}
 use native.Mathlib.Omega.{arith}
 use lib.ListN.{getD, set}
 use Rattle.rules.specs.declared.Marks.{Marks}
@@ -13,17 +13,12 @@ use Rattle.rules.specs.declared.Side.the-variants.{ByEcho, ByReady}
 use Rattle.rules.specs.Messages.{sideTag}
 use Rattle.rules.specs.Record.{noMarks}
 use Rattle.rules.specs.Steps.{mark, withProgress}
+use Rattle.rules.specs.Laws.Shape.{HasMark}
 
--- a tag, and a sender
-pub record Heard (tag m : ℕ) : Type 0 where
-  pub least : 1 ≤ tag
-  pub most : tag ≤ 4
-  pub sender : m < 10
-
--- that of an echo or ready has its place
-pub side-heard : (b : Side) {t m : ℕ} → t ≡ sideTag b → m < 10 → Heard t m
-side-heard ByEcho e l = record { least = omega arith; most = omega arith; sender = l }
-side-heard ByReady e l = record { least = omega arith; most = omega arith; sender = l }
+-- an echo and a ready have their mark
+pub side-heard : (b : Side) {t m : ℕ} → t ≡ sideTag b → m < 10 → HasMark t m
+side-heard ByEcho e l = record { low = omega arith; high = omega arith; place = l }
+side-heard ByReady e l = record { low = omega arith; high = omega arith; place = l }
 
 abbrev pub heardMarks : List Marks → ℕ → ℕ → List Marks
 heardMarks l tag m = set l (tag - 1) (mark (getD l (tag - 1) noMarks) m)

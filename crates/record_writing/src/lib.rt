@@ -12,11 +12,12 @@ ghost use mathlib.Core.Path.{_≡_};
 ghost use Prim.Native.Nat.{_<_};
 ghost use Rattle.rules.specs.Messages.{sideTag};
 ghost use Rattle.rules.specs.Steps.{heard, withSlot, withShares, completing, firstCompletion};
-ghost use Rattle.record_writing.specs.Anew.{Heard, heardMarks, dealtAfter, commandedAfter};
+ghost use Rattle.rules.specs.Laws.Shape.{HasMark};
+ghost use Rattle.record_writing.specs.Anew.{heardMarks, dealtAfter, commandedAfter};
 
 // Sender m + 1 marked among those heard for the tag.
 fn heard_marks(heard: [Marks; 4], tag: usize, m: usize) -> [Marks; 4]
-    requires { ⌜ Heard tag m ⌝ }
+    requires { ⌜ HasMark tag m ⌝ }
     ensures { λ r. ⌜ r ≡ heardMarks heard tag m ⌝ }
 {
     let at = tag - 1;
@@ -29,7 +30,7 @@ fn heard_marks(heard: [Marks; 4], tag: usize, m: usize) -> [Marks; 4]
 
 // Sender m + 1 is heard for the tag.
 pub fn heard_for(x: Record, tag: usize, m: usize) -> Record
-    requires { ⌜ Heard tag m ⌝ }
+    requires { ⌜ HasMark tag m ⌝ }
     ensures { λ r. ⌜ r ≡ heard x tag m ⌝ }
 {
     let old = x.heard;

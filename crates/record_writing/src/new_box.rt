@@ -35,6 +35,7 @@ fn zero_slot() -> Slot
     }
 }
 
+// With these set-up numbers, whatever they are.
 pub fn new_record(u: SetUp) -> Record
     ensures { λ r. ⌜ r ≡ newRecord u ⌝ }
 {
@@ -55,6 +56,7 @@ pub fn new_record(u: SetUp) -> Record
     }
 }
 
+// All zero: no call but set-up takes it.
 pub fn zero_record() -> Record
     ensures { λ r. ⌜ r ≡ zeroRecord ⌝ }
 {

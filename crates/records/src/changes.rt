@@ -50,6 +50,7 @@ fn short(number: usize) -> u16 {
 
 // ---- the parts of a record
 
+// The seven numbers of a change.
 pub fn set_up(change: Change) -> SetUp {
     let numbers = change.numbers;
     SetUp {

@@ -87,6 +87,7 @@ fn taken(mut change: Change, b: u8) -> Change {
     change
 }
 
+// The change that a text says, read to its end.
 pub fn change_in(text: &[u8]) -> Change {
     let mut change = Change {
         letter: 0,

@@ -1,6 +1,7 @@
 // Sound records that a stricter test would refuse.
 use crate::lines::lines;
 
+// Each gets 1, then 13 or 14, then 0 or 13.
 pub fn all() {
     lines(
         b"\

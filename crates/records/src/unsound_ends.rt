@@ -1,6 +1,7 @@
 // The clauses of completion, recovery, dealing and unused places: each broken alone, where that can be.
 use crate::lines::lines;
 
+// Each gets 12, three times.
 pub fn all() {
     // "a completed box has one completed matrix in use, with r ≥ k + t"
     lines(

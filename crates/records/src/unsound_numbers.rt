@@ -1,6 +1,7 @@
 // "its group and set-up numbers keep their rules; stored exponents are below q": each broken alone.
 use crate::lines::lines;
 
+// Each gets 12, three times.
 pub fn all() {
     // The rules are t ≥ 1, k > t, n - 2t ≥ k, n ≤ 10.
     lines(

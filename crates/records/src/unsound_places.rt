@@ -1,6 +1,7 @@
 // The clauses of matrices, marks, places, use and kept pairs: each broken alone.
 use crate::lines::lines;
 
+// Each gets 12, three times.
 pub fn all() {
     // "matrices in use are different and would pass refusal 8": 25 counts as 2 modulo p = 23, and 5 is no power of g.
     lines(

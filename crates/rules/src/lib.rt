@@ -22,6 +22,7 @@ pub struct Group {
 }
 
 impl Group {
+    // Group 1, and group 2.
     pub const TABLE: [Group; 2] = [
         Group {
             p: 23,
@@ -65,6 +66,7 @@ impl SetUp {
     // k is at most 8.
     pub const WIDTH: usize = 8;
 
+    // Sessions are 0..65,535.
     pub const SESSIONS: u32 = 65_535;
     // "At most 20 such C's can occur and there is room for all".
     pub const SLOTS: usize = 20;
@@ -114,6 +116,7 @@ pub enum Point {
     Held(Four),
 }
 
+// Of a sender.
 pub struct Place {
     pub point: Point,
 }
@@ -124,6 +127,7 @@ pub enum Kept {
     There(Pair),
 }
 
+// Where a pair is kept.
 pub struct Keep {
     pub kept: Kept,
 }
@@ -140,6 +144,7 @@ pub enum Side {
 }
 
 impl Side {
+    // The tag of its messages.
     pub fn tag(self) -> u8
         ensures { λ r. ⌜ r ≡ sideTag self ⌝ }
     {
@@ -172,12 +177,14 @@ pub enum Completion {
     With(usize),
 }
 
+// What the box has done: dealt, completed, been commanded to recover.
 pub struct Progress {
     pub dealt: bool,
     pub completion: Completion,
     pub commanded: bool,
 }
 
+// All that a box holds between two calls.
 pub struct Record {
     pub setup: SetUp,
     pub slots: [Slot; 20],
@@ -191,6 +198,7 @@ pub struct Record {
 
 // ---- Answers
 
+// What an accepted call has sent.
 pub enum Sent {
     Nothing,
     Send,

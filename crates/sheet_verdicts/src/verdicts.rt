@@ -50,6 +50,7 @@ fn if_verified(group: Group, k: usize, c: [[Element; 8]; 8], m: u16, keep: Keep)
     }
 }
 
+// The shares of boxes 1 to n that pass; of the others nothing.
 pub fn verified_shares(
     group: Group,
     k: usize,

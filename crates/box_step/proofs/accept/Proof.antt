@@ -1,5 +1,4 @@
 -- `accept` is the outcome of its step. Assumes nothing.
-use mathlib.Core.Path.{_≡_}
 use borrow.Author.Needs.{needs}
 use Rattle.box_step.proofs.accept.Statement.{statement}
 use Rattle.box_step.proofs.accept.Tie as tie

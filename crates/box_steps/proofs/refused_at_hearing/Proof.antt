@@ -17,9 +17,9 @@ heard-for-requires : tie.Need-heard-for-requires
 heard-for-requires c κs =
     let p = c .before .before .before .pre in
     record {
-      least = p .form .low;
-      most = p .form .high;
-      sender = omega (arith, p .within, sound-ranges _ (p .is-sound) .boxes);
+      low = p .form .low;
+      high = p .form .high;
+      place = omega (arith, p .within, sound-ranges _ (p .is-sound) .boxes);
     }
 
 matrix : tie.Need-returns-2

@@ -37,7 +37,7 @@ take-send-spec =
     record { some = group-ranges r (c .before .before .group-of .ensures) .some; high = r .high; boxes = r .boxes })
     (λ c κs. let pre = c .before .before .before .before .before .before .before .pre in can-send (ranges (pre .here)) (pre .room))
     (λ c κs. let pre = c .before .before .before .before .before .before .before .before .before .before .pre in
-    record { least = lit≤ tt; most = lit≤ tt; sender = place (pre .here) })
+    record { low = lit≤ tt; high = lit≤ tt; place = place (pre .here) })
     (λ c κs. search needs)
     (λ c. search needs)
     returns)

@@ -1,5 +1,5 @@
 -- `take_share` is the step of a checked recovery share. Assumes nothing.
-use mathlib.Core.Path.{_≡_, ap, _∙_}
+use mathlib.Core.Path.{ap, _∙_}
 use lib.Dec.{lit≤}
 use borrow.Author.Needs.{needs}
 use Rattle.rules.specs.Steps.{heard, recovering, sharing, shareStep}
@@ -24,6 +24,6 @@ take-share-spec =
     (tie.spec
     (λ c. search needs)
     (λ c. place (c .before .pre))
-    (λ c κs. record { least = lit≤ tt; most = lit≤ tt; sender = place (c .before .pre) })
+    (λ c κs. record { low = lit≤ tt; high = lit≤ tt; place = place (c .before .pre) })
     recovering-requires
     returns)

@@ -14,7 +14,7 @@ use native.Mathlib.Decide.{ℕ-discrete}
 use lib.ListN.{length, getD, set}
 use lib.Seq.{getD-set-same, getD-set-other}
 use borrow.Author.Tests.{eqb-true, ne-eqb, le-leb, leb-true, eq-eqb}
-use Rattle.folds.specs.Tests.{_and_, pick, pick-true, pick-false, and-left, and-right, and-intro, eq-same, decide, true≢false}
+use Rattle.folds.specs.Tests.{_and_, pick, pick-true, pick-false, and-left, and-right, and-intro, decide, true≢false}
 use Rattle.rules.specs.declared.Marks.{Marks}
 use Rattle.rules.specs.declared.Record.{Record}
 use Rattle.rules.specs.declared.SetUp.{SetUp}

@@ -1,7 +1,8 @@
--- The lengths of a record's arrays. The declared types fix them; of a record as antt sees it they are a hypothesis.
+-- The lengths of a record's arrays. The declared types fix them; of a record as antt sees it they are a hypothesis. And the
+-- numbers that have a mark in it.
 -- Assumes nothing.
 use mathlib.Core.Path.{_≡_}
-use Prim.Native.Nat.{ℕ, _<_}
+use Prim.Native.Nat.{ℕ, _<_, _≤_}
 use lib.ListN.{length, getD}
 use Rattle.rules.specs.declared.Slot.{Slot}
 use Rattle.rules.specs.declared.Record.{Record}
@@ -20,3 +21,9 @@ pub record Shaped (x : Record) : Type 0 where
   pub heard : length (x .heard) ≡ 4
   pub marks : (t : ℕ) → t < 4 → length (getD (x .heard) t noMarks .at) ≡ 10
   pub shares : length (x .shares) ≡ 10
+
+-- a tag and a sender's index have their mark
+pub record HasMark (tag m : ℕ) : Type 0 where
+  pub low : 1 ≤ tag
+  pub high : tag ≤ 4
+  pub place : m < 10
