@@ -1,10 +1,10 @@
 // The call that a line makes, and what is printed for it.
-use crate::said;
-use crate::said::Said;
+use console_lines::said;
+use console_lines::said::Said;
 use rules::Outcome;
 use rules::Record;
 use rules::SetUp;
-ghost use Rattle.console.specs.Lines.{Lent};
+ghost use Rattle.console_lines.specs.Lines.{Lent};
 
 // The box's record, and how many bytes it is lent.
 pub struct Bench {

@@ -1,9 +1,8 @@
 // One box at a keyboard or at the end of a pipe: reads lines, and answers each at once.
 mod calls;
-mod lines;
-mod said;
 
-use lines::Line;
+use console_lines::lines;
+use console_lines::lines::Line;
 
 // The turns are counted down, from a number that no run uses up: a proved loop has to end.
 fn main() {

@@ -3,8 +3,8 @@ use mathlib.Core.Path.{sym, _∙_}
 use borrow.Author.Needs.{needs}
 use borrow.Author.Tests.{not-false}
 use Rattle.folds.specs.Found.{found3, found5}
-use Rattle.console.proofs.said.deal.Statement.{statement}
-use Rattle.console.proofs.said.deal.Tie as tie
+use Rattle.console_lines.proofs.said.deal.Statement.{statement}
+use Rattle.console_lines.proofs.said.deal.Tie as tie
 
 pub deal-spec : {M : Type 1} → statement M
 deal-spec =

@@ -3,8 +3,8 @@ use mathlib.Core.Path.{sym, _∙_}
 use borrow.Author.Needs.{needs}
 use borrow.Author.Tests.{not-false}
 use Rattle.folds.specs.Found.{found2, found3}
-use Rattle.console.proofs.said.lend.Statement.{statement}
-use Rattle.console.proofs.said.lend.Tie as tie
+use Rattle.console_lines.proofs.said.lend.Statement.{statement}
+use Rattle.console_lines.proofs.said.lend.Tie as tie
 
 pub lend-spec : {M : Type 1} → statement M
 lend-spec =

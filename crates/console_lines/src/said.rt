@@ -5,7 +5,7 @@ ghost use mathlib.Core.Bool.{true};
 ghost use Prim.Native.Nat.{_≤_};
 ghost use lib.ListN.{length};
 ghost use Rattle.rules.specs.Text.{numbersAt};
-ghost use Rattle.console.specs.Lines.{Standing};
+ghost use Rattle.console_lines.specs.Lines.{Standing};
 
 // A deal has a secret and so many coins, a delivery a sender and so many bytes; they stand in the space that was lent.
 pub enum Said {

@@ -4,10 +4,10 @@ use mathlib.Core.Path.{_≡_}
 use mathlib.Core.List.{List}
 use Prim.Native.Nat.{ℕ, _≤_}
 use lib.ListN.{length}
-use Rattle.console.specs.declared.lines.Line.{Line}
-use Rattle.console.specs.declared.lines.Line.the-variants.{Whole, TooLong, Cut, End}
-use Rattle.console.specs.declared.said.Said.{Said}
-use Rattle.console.specs.declared.said.Said.the-variants as said
+use Rattle.console_lines.specs.declared.lines.Line.{Line}
+use Rattle.console_lines.specs.declared.lines.Line.the-variants.{Whole, TooLong, Cut, End}
+use Rattle.console_lines.specs.declared.said.Said.{Said}
+use Rattle.console_lines.specs.declared.said.Said.the-variants as said
 
 abbrev pub Within : Line → List ℕ → Type 0
 Within (Whole n) buffer = n ≤ length buffer

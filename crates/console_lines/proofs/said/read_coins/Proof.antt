@@ -3,8 +3,8 @@ use mathlib.Core.Path.{_≡_}
 use Prim.Native.Nat.{_≤_, _-_}
 use lib.ListN.{length}
 use borrow.Author.Needs.{needs}
-use Rattle.console.proofs.said.read_coins.Statement.{statement}
-use Rattle.console.proofs.said.read_coins.Tie as tie
+use Rattle.console_lines.proofs.said.read_coins.Statement.{statement}
+use Rattle.console_lines.proofs.said.read_coins.Tie as tie
 
 abbrev Inv-loop : tie.InvT-loop
 Inv-loop line m coins₀ j₀ coins j = (length coins ≡ length coins₀) × (1 ≤ j)

@@ -3,8 +3,8 @@ use mathlib.Core.Path.{sym, _∙_}
 use borrow.Author.Needs.{needs}
 use borrow.Author.Tests.{not-false}
 use Rattle.folds.specs.Found.{found2, found7}
-use Rattle.console.proofs.said.deliver_hex.Statement.{statement}
-use Rattle.console.proofs.said.deliver_hex.Tie as tie
+use Rattle.console_lines.proofs.said.deliver_hex.Statement.{statement}
+use Rattle.console_lines.proofs.said.deliver_hex.Tie as tie
 
 pub deliver-hex-spec : {M : Type 1} → statement M
 deliver-hex-spec =

@@ -1,5 +1,5 @@
 // Lines of standard input.
-ghost use Rattle.console.specs.Lines.{Within};
+ghost use Rattle.console_lines.specs.Lines.{Within};
 
 // One byte of standard input, or its end.
 enum Byte {

@@ -3,8 +3,8 @@ use mathlib.Core.Path.{sym, _∙_}
 use borrow.Author.Needs.{needs}
 use borrow.Author.Tests.{not-false}
 use Rattle.folds.specs.Found.{found2}
-use Rattle.console.proofs.said.set_up.Statement.{statement}
-use Rattle.console.proofs.said.set_up.Tie as tie
+use Rattle.console_lines.proofs.said.set_up.Statement.{statement}
+use Rattle.console_lines.proofs.said.set_up.Tie as tie
 
 pub set-up-spec : {M : Type 1} → statement M
 set-up-spec =

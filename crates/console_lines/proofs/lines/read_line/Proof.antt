@@ -4,8 +4,8 @@ use Prim.Native.Nat.{_≤_, _-_}
 use lib.ListN.{length, length-set}
 use borrow.Author.Needs.{needs}
 use Rattle.folds.specs.Found.{found5, found10}
-use Rattle.console.proofs.lines.read_line.Statement.{statement}
-use Rattle.console.proofs.lines.read_line.Tie as tie
+use Rattle.console_lines.proofs.lines.read_line.Statement.{statement}
+use Rattle.console_lines.proofs.lines.read_line.Tie as tie
 
 abbrev Inv-loop : tie.InvT-loop
 Inv-loop buf₀ n₀ buf n = (length buf ≡ length buf₀) × (n ≤ length buf₀)
