@@ -57,7 +57,7 @@ module _ (u : SetUp) (s : Sound u) where
 
   -- "Any k verified shares from k different boxes give a pair that opens the first entry of the commitment, whoever dealt and
   -- whoever lied." More cannot be said: in P8 the pair (0, 1) of box 2 is verified too, and with box 1's share gives (3, 4), which
-  -- opens the same entry as the dealt (5, 1) (`Instances`).
+  -- opens the same entry as the dealt (5, 1) (`instances`, in `Boxes`).
   pub verified-shares-open : (C : List (List Element)) → matrixPasses (group u) (u .k) C ≡ true → (ps : List (Said Pair))
       → Different u noPair ps (λ m x. shareCheck (group u) (u .k) C m x ≡ true)
       → committed (group u) (recoveredFrom (order u) ps .first .0) (recoveredFrom (order u) ps .second .0) ≡ entry C 0 0
