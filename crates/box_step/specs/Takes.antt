@@ -48,10 +48,12 @@ rests {x} buffer e same = still (quiet x) buffer refl (e ∙ ap quietly same)
 
 -- ---- the outcome of a call
 
-module _ (n : ℕ) (st : Step) (after : Record) (buffer : List ℕ) {o : Outcome} where
-  pub accepts : {s : Made} {buffer′ : List ℕ} → n ≡ 0 → Takes st buffer s buffer′ → o ≡ told s → done o buffer′ ≡ answered n st after buffer
+-- by the number m, which code computes and tests for 0
+module _ (n : ℕ) (st : Step) (after : Record) (buffer : List ℕ) {o : Outcome} {m : ℕ} (is : m ≡ n) where
+  pub accepts : {s : Made} {buffer′ : List ℕ} → m ≡ 0 → Takes st buffer s buffer′ → o ≡ told s → done o buffer′ ≡ answered n st after buffer
   unfolding made accepted
-  accepts none t e = ap₂ done (e ∙ ap told (t .step)) (t .wrote) ∙ sym (answered-accepted n st after buffer none)
+  accepts none t e = ap₂ done (e ∙ ap told (t .step)) (t .wrote) ∙ sym (answered-accepted n st after buffer (sym is ∙ none))
 
-  pub refuses : n ≢ 0 → o ≡ refused n after → done o buffer ≡ answered n st after buffer
-  refuses some e = ap (λ o. done o buffer) e ∙ sym (answered-refused n st after buffer some)
+  pub refuses : m ≢ 0 → o ≡ refused m after → done o buffer ≡ answered n st after buffer
+  refuses some e =
+      ap (λ o. done o buffer) (e ∙ ap (λ n. refused n after) is) ∙ sym (answered-refused n st after buffer (λ z. some (is ∙ z)))

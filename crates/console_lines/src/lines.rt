@@ -41,7 +41,7 @@ fn skip_line() -> bool {
     false
 }
 
-// At the front of the buffer.
+// The next line, at the front of the buffer.
 pub fn read_line(buf: &mut [u8]) -> Line
     ensures { λ r. ⌜ Within r (now (buf .exit)) ⌝ }
 {

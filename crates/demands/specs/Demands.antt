@@ -3,8 +3,8 @@
 -- lives, histories), `Sharing` (an honest deal; k different boxes), `Lives.Terms` (what was checked in a life, what a box holds
 -- for a matrix), `SheetOpens` (a sheet that prints a secret), `Matching` (the map of the coins).
 --
--- In order: demand 2: sharing, completeness, the life of a box, the recovery sheet; demand 3. The crate `instances` has a
--- history, computed, for each theorem.
+-- In order: demand 2: sharing, completeness, the life of a box, the recovery sheet; demand 3. The crate `instances` has
+-- computed histories for sharing, the life of a box and demand 3; completeness and the sheet have none there.
 -- Assumes nothing.
 use mathlib.Core.Path.{_≡_}
 use mathlib.Core.Bool.{Bool, true, false}

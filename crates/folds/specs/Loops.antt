@@ -1,38 +1,19 @@
 -- Loops over the indices below a bound: what holds at the head, by which law it starts, goes on with a turn, and what each way out
 -- answers.
 --
--- In order: each index is tested (`Passing`); an array is filled from the front (`Filling`); how many pass (`Counted`); the lowest
--- that does (`NotYet`); and tests in a chain, outside loops.
+-- In order: an array is filled from the front (`Filling`); each index is tested, or one is looked for; how many pass (`Counted`); the
+-- lowest that does (`NotYet`); and tests in a chain, outside loops.
 -- Assumes nothing.
 use mathlib.Core.Path.{_≡_, sym, ap, _∙_}
 use mathlib.Core.Bool.{Bool, true, false}
-use mathlib.Core.List.{List}
+use mathlib.Core.List.{List, map}
 use mathlib.Core.Logic.{_⊎_, inl, inr}
 use Prim.Native.Nat.{ℕ, _+_, _-_, _<_, _≤_}
 use native.Mathlib.Omega.{arith}
-use lib.ListN.{set}
+use lib.ListN.{length, getD, set, length-map, List·getD-map}
 use Rattle.folds.specs.Tests.{_and_, true≢false, false-unless}
-use Rattle.folds.specs.Below.{allBelow, allBelow-zero, allBelow-more, allBelow-at, allBelow-all, allBelow-not, anyBelow, anyBelow-here, anyBelow-none, countBelow, countBelow-zero, countBelow-more, firstFrom, firstFrom-here, firstFrom-none, firstFrom-skip}
-use Rattle.folds.specs.Stores.{stores, stores-zero, stores-turn, stores-left}
-
--- each index before i passes
-pub record Passing (p : ℕ → Bool) (k i : ℕ) : Type 0 where
-  pub within : i ≤ k
-  pub passed : allBelow i p ≡ true
-
-module _ {p : ℕ → Bool} {k : ℕ} where
-  pub passing-none : Passing p k 0
-  passing-none = record { within = omega arith; passed = allBelow-zero p }
-
-  pub passing-more : {i : ℕ} → Passing p k i → i < k → p i ≡ true → Passing p k (i + 1)
-  passing-more {i} h l e = record { within = omega arith; passed = allBelow-more p i (h .passed) e }
-
-  -- one fails, or the loop is left and none did
-  pub passing-not : {i : ℕ} → Passing p k i → i < k → p i ≡ false → false ≡ allBelow k p
-  passing-not {i} h l e = sym (allBelow-not p k i l e)
-
-  pub passing-all : {i : ℕ} → Passing p k i → k ≤ i → true ≡ allBelow k p
-  passing-all {i} h l = let q : i ≡ k = omega arith in sym (rw q at (h .passed))
+use Rattle.folds.specs.Below.{allBelow, allBelow-at, allBelow-all, allBelow-not, anyBelow, anyBelow-here, anyBelow-none, countBelow, countBelow-zero, countBelow-more, firstFrom, firstFrom-here, firstFrom-none, firstFrom-skip}
+use Rattle.folds.specs.Stores.{stores, stores-zero, stores-turn, stores-left, stores-is}
 
 -- the first i of f are stored in l
 pub record Filling {A : Type 0} (f : ℕ → A) (l : List A) (k i : ℕ) (made : List A) : Type 0 where
@@ -49,6 +30,13 @@ module _ {A : Type 0} {f : ℕ → A} {l : List A} {k : ℕ} where
   -- the loop is left
   pub filling-all : {i : ℕ} {made : List A} → Filling f l k i made → k ≤ i → made ≡ stores k f l
   filling-all {i} h b = stores-left f l i k (h .within) b (h .stored)
+
+-- the loop is left, and f was g of each element of a list as long: it is that list, mapped
+pub filling-map : {A B : Type 0} (g : A → B) (xs : List A) (d : A) {l made : List B} {k i : ℕ} → Filling (λ n. g (getD xs n d)) l k i made
+    → k ≤ i → length l ≡ k → length xs ≡ k → made ≡ map g xs
+filling-map g xs d {l} {k = k} h b e same =
+    filling-all h b
+    ∙ stores-is (λ n. g (getD xs n d)) l k (map g xs) (g d) e (length-map xs g ∙ same) (λ i lt. sym (List·getD-map g xs i d))
 
 -- how many of the indices before i pass, where none from n on are looked at
 abbrev pub Counted : (ℕ → Bool) → ℕ → ℕ → ℕ → Type 0

@@ -1,5 +1,5 @@
--- Computed plays: one in which every answer number is met, and histories that meet what the statements of `demands` suppose, in
--- which something happens: no hypothesis is out of reach, and none is met by a useless box alone.
+-- Computed plays: one in which every answer number is met; and histories that meet what statements of `demands` suppose of
+-- sharing, of the life of a box and in demand 3, and in which something happens, so that none is met by a useless box alone.
 --
 -- In order: each answer number; histories replayed; equal lists; a life in which all of demand 2 happens; points and shares of
 -- different boxes; P9 out of the map of coins; a history for demand 3.

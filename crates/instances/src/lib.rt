@@ -1,1 +1,1 @@
-// Computed plays of the definitions of `rules`, and for the theorems of `demands`: nothing runs here.
+// Computed plays of the definitions of `rules`, and histories for theorems of `demands`: nothing runs here.

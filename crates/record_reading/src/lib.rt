@@ -17,7 +17,7 @@ ghost use Rattle.rules.specs.Record.{rowAt, heardFor, isHeld, isThere, isDone, 
 ghost use Rattle.rules.specs.Laws.Shape.{HasMark};
 ghost use Rattle.record_reading.specs.Slots.{countMarks, sameRow, hasMatrix};
 
-// A silent place holds nothing, whatever the numbers of a held one are.
+// Silence is a case of its own: a point of zeros is held.
 pub fn is_held(place: Place) -> bool
     ensures { λ r. ⌜ r ≡ isHeld (place .point) ⌝ }
 {

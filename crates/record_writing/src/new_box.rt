@@ -56,7 +56,7 @@ pub fn new_record(u: SetUp) -> Record
     }
 }
 
-// All zero: no call but set-up takes it.
+// Every later call refuses it.
 pub fn zero_record() -> Record
     ensures { λ r. ⌜ r ≡ zeroRecord ⌝ }
 {

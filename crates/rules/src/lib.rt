@@ -116,7 +116,7 @@ pub enum Point {
     Held(Four),
 }
 
-// Of a sender.
+// An array holds structs and no enums: so a sender's point stands in a place.
 pub struct Place {
     pub point: Point,
 }
@@ -127,7 +127,7 @@ pub enum Kept {
     There(Pair),
 }
 
-// Where a pair is kept.
+// As a point in its place: so that an array can hold it.
 pub struct Keep {
     pub kept: Kept,
 }

@@ -1,5 +1,5 @@
 -- `deliver` answers a delivery by its rows: those before the hearing, and those at it. Assumes nothing.
-use mathlib.Core.Path.{_≡_, sym, ap, ap₂, _∙_}
+use mathlib.Core.Path.{_≡_, sym, ap, _∙_}
 use lib.ListN.{length}
 use borrow.Author.Needs.{needs}
 use Rattle.rules.specs.Answers.{firstOf, refused, earlyRows, hearingRows, deliverRows, deliver}
@@ -24,7 +24,7 @@ refuses-early c =
     let early = tested .before .early .ensures in
     let first = stops (earlyRows _ _ _ _) (hearingRows _ _ _) (early-numbered _ _ _ _) early (tested .if1 .taken) in
     let left = early-leaves _ _ _ _ (λ e. tested .if1 .taken (early ∙ e)) in
-    refuses _ _ _ _ (λ e. tested .if1 .taken (first ∙ e)) (c .refuse .ensures ∙ ap₂ refused first (sym left))
+    refuses _ _ _ _ first (tested .if1 .taken) (c .refuse .ensures ∙ ap (refused _) (sym left))
 
 refuses-late : tie.Need-returns-2
 unfolding deliver deliverRows
@@ -34,8 +34,7 @@ refuses-late c =
     let late = tested .before .hearing .ensures in
     let first = goes-on (earlyRows _ _ _ _) (hearingRows _ _ _) (early-numbered _ _ _ _) (heard .before .early .ensures) (heard .if1 .left) late in
     let left = hearing-leaves _ _ _ _ (none-early heard) (λ e. tested .if2 .taken (late ∙ e)) in
-    refuses _ _ _ _ (λ e. tested .if2 .taken (first ∙ e))
-    (c .refuse2 .ensures ∙ ap₂ refused first (c .before .refused-at-hearing .ensures ∙ sym left))
+    refuses _ _ _ _ first (tested .if2 .taken) (c .refuse2 .ensures ∙ ap (refused _) (c .before .refused-at-hearing .ensures ∙ sym left))
 
 accepts-now : tie.Need-returns-3
 unfolding deliver deliverRows
@@ -44,7 +43,7 @@ accepts-now c =
     let heard = tested .before .before in
     let late = tested .before .hearing .ensures in
     let first = goes-on (earlyRows _ _ _ _) (hearingRows _ _ _) (early-numbered _ _ _ _) (heard .before .early .ensures) (heard .if1 .left) late in
-    accepts _ _ _ _ (sym first ∙ tested .if2 .left) (c .before .before .before .take .ensures) (c .accept .ensures)
+    accepts _ _ _ _ first (tested .if2 .left) (c .before .before .before .take .ensures) (c .accept .ensures)
 
 pub deliver-spec : {M : Type 1} → statement M
 deliver-spec =

@@ -1,11 +1,9 @@
 -- `inverses` has the inverse of each point's product over the others. The loop's invariant: the first i stand there.
 -- Assumes nothing.
-use mathlib.Core.Path.{_≡_, sym}
-use Prim.Native.Nat.{_-_, _≤_}
-use native.Mathlib.Omega.{arith}
+use Prim.Native.Nat.{_-_}
 use lib.ListN.{replicate}
 use borrow.Author.Needs.{needs}
-use Rattle.folds.specs.Stores.{stores, stores-zero, stores-turn, stores-left}
+use Rattle.folds.specs.Loops.{Filling, filling-none, filling-more, filling-all}
 use Rattle.rules.specs.Numbers.{exponent}
 use Rattle.rules.specs.Matrices.{row}
 use Rattle.interpolation.specs.Lagrange.{inverseAt, inverseRow}
@@ -14,7 +12,7 @@ use Rattle.interpolation.proofs.inverses.Tie as tie
 
 abbrev Inv-loop : tie.InvT-loop
 Inv-loop q all count made₀ i₀ made i =
-    (i ≤ all .count) × (made ≡ stores i (inverseAt q (all .count) (all .boxes)) (replicate 8 (exponent 0)))
+    Filling (inverseAt q (all .count) (all .boxes)) (replicate 8 (exponent 0)) (all .count) i made
 
 abbrev μ-loop : tie.MeasureT-loop
 μ-loop q all count made₀ i₀ made i = all .count - i
@@ -22,11 +20,11 @@ abbrev μ-loop : tie.MeasureT-loop
 loop-again : tie.Need-loop-again Inv-loop μ-loop
 loop-again c =
     let own = c .before .others-at .ensures in
-    (omega arith, stores-turn _ _ _ (c .before .before .before .before .loop .inv .1) (rw own at (c .inverted .ensures)))
+    filling-more (c .before .before .before .before .loop .inv) (c .before .before .before .loop-test .taken) (rw own at (c .inverted .ensures))
 
 returns : tie.Need-returns Inv-loop μ-loop
 unfolding inverseRow row
-returns c = let loop = c .before .loop in stores-left _ _ (loop .i) _ (loop .inv .0) (c .loop-test .left) (loop .inv .1)
+returns c = let loop = c .before .loop in filling-all (loop .inv) (c .loop-test .left)
 
 pub inverses-spec : {M : Type 1} → statement M
 inverses-spec =
@@ -34,7 +32,7 @@ inverses-spec =
     (tie.spec
     Inv-loop
     μ-loop
-    (λ c. (omega arith, sym (stores-zero _ _)))
+    (λ c. filling-none)
     (λ c. search needs)
     (λ c. search needs)
     (λ c κs. search needs)

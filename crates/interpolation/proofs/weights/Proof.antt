@@ -1,12 +1,11 @@
 -- `weights` has what the value of each point counts at x. The loop's invariant: the first i stand there. Assumes nothing.
 use mathlib.Core.List.{List}
-use mathlib.Core.Path.{_≡_, sym, ap, _∙_}
-use Prim.Native.Nat.{ℕ, _-_, _≤_, _<_}
-use native.Mathlib.Omega.{arith}
+use mathlib.Core.Path.{_≡_, ap, _∙_}
+use Prim.Native.Nat.{ℕ, _-_, _<_}
 use lib.ListN.{replicate}
 use borrow.Author.Needs.{needs}
 use Rattle.folds.specs.Found.{found7}
-use Rattle.folds.specs.Stores.{stores, stores-zero, stores-turn, stores-left}
+use Rattle.folds.specs.Loops.{Filling, filling-none, filling-more, filling-all}
 use Rattle.rules.specs.declared.Exponent.{Exponent}
 use Rattle.rules.specs.Numbers.{exponent}
 use Rattle.rules.specs.Matrices.{row, coefficient}
@@ -25,7 +24,7 @@ under-at q all under b i l =
 
 abbrev Inv-loop : tie.InvT-loop
 Inv-loop q all x inverse count made₀ i₀ made i =
-    (i ≤ all .count) × (made ≡ stores i (weightAt q (all .count) (all .boxes) x) (replicate 8 (exponent 0)))
+    Filling (weightAt q (all .count) (all .boxes) x) (replicate 8 (exponent 0)) (all .count) i made
 
 abbrev μ-loop : tie.MeasureT-loop
 μ-loop q all x inverse count made₀ i₀ made i = all .count - i
@@ -35,15 +34,15 @@ loop-again c =
     let turn = c .before .before .before in
     let start = turn .before .before in
     let under = under-at _ _ _ (start .pre) _ (turn .loop-test .taken) in
-    (omega arith, stores-turn _ _ _ (turn .before .loop .inv .1) (rw (c .product .ensures, c .before .before .others-at .ensures, under)))
+    filling-more (turn .before .loop .inv) (turn .loop-test .taken) (rw (c .product .ensures, c .before .before .others-at .ensures, under))
 
 returns : tie.Need-returns Inv-loop μ-loop
 unfolding weightRow row
-returns c = let loop = c .before .loop in stores-left _ _ (loop .i) _ (loop .inv .0) (c .loop-test .left) (loop .inv .1)
+returns c = let loop = c .before .loop in filling-all (loop .inv) (c .loop-test .left)
 
 pub weights-spec : {M : Type 1} → statement M
 weights-spec =
     tie.close
-    (found7 (tie.spec Inv-loop μ-loop (λ c. (omega arith, sym (stores-zero _ _))) (λ c κs. c .before .before .pre .fit)) (search needs)
+    (found7 (tie.spec Inv-loop μ-loop (λ c. filling-none) (λ c κs. c .before .before .pre .fit)) (search needs)
     loop-again
     returns)

@@ -1,9 +1,8 @@
 -- `message_reading::read_exponents` meets its contract. The loop's invariant: the first l coefficients are stored.
 -- The measure is what is left of k. Assumes nothing.
-use Prim.Native.Nat.{_+_, _-_, _*_, _≤_}
+use Prim.Native.Nat.{_+_, _-_, _*_}
 use native.Mathlib.Omega.{arith}
-use mathlib.Core.Path.{_≡_, sym}
-use Rattle.folds.specs.Stores.{stores, stores-zero, stores-turn, stores-left}
+use Rattle.folds.specs.Loops.{Filling, filling-none, filling-more, filling-all}
 use Rattle.rules.specs.Numbers.{exponent}
 use Rattle.rules.specs.Matrices.{row}
 use Rattle.rules.specs.Messages.{word, coefficientsIn}
@@ -15,9 +14,9 @@ unfolding coefficientsIn row
 read-exponents-spec =
     tie.close
     (tie.spec
-    (λ s p k a₀ l₀ made l. (l ≤ k) × (made ≡ stores l (λ i. exponent (word s (p + 2 * i))) a₀))
+    (λ s p k a₀ l₀ made l. Filling (λ i. exponent (word s (p + 2 * i))) a₀ k l made)
     (λ s p k a₀ l₀ made l. k - l)
-    (λ c. (omega arith, sym (stores-zero _ _)))
+    (λ c. filling-none)
     (λ c. omega arith)
     (λ c. omega arith)
     (λ c κs. omega arith)
@@ -25,5 +24,5 @@ read-exponents-spec =
     (λ c. omega arith)
     (λ c. omega arith)
     (λ c. omega arith)
-    (λ c. (omega arith, stores-turn _ _ _ (c .before .before .loop .inv .1) (c .exponent-at .ensures)))
-    (λ c. stores-left _ _ _ _ (c .before .loop .inv .0) (c .loop-test .left) (c .before .loop .inv .1)))
+    (λ c. filling-more (c .before .before .loop .inv) (c .before .loop-test .taken) (c .exponent-at .ensures))
+    (λ c. filling-all (c .before .loop .inv) (c .loop-test .left)))

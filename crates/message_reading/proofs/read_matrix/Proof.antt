@@ -2,8 +2,8 @@
 -- The measure is what is left of k. Assumes nothing.
 use Prim.Native.Nat.{ℕ, _+_, _-_, _*_, _≤_}
 use native.Mathlib.Omega.{arith}
-use mathlib.Core.Path.{_≡_, sym, ap, _∙_}
-use Rattle.folds.specs.Stores.{stores, stores-zero, stores-turn, stores-left}
+use mathlib.Core.Path.{_≡_, ap, _∙_}
+use Rattle.folds.specs.Loops.{Filling, filling-none, filling-more, filling-all}
 use Rattle.rules.specs.Numbers.{element}
 use Rattle.rules.specs.Matrices.{row, matrix}
 use Rattle.rules.specs.Messages.{word, matrixIn}
@@ -13,7 +13,7 @@ use Rattle.message_reading.proofs.read_matrix.Statement.{statement}
 use Rattle.message_reading.proofs.read_matrix.Tie as tie
 
 abbrev Inv-loop : tie.InvT-loop
-Inv-loop s k c₀ j₀ c j = (j ≤ k) × (c ≡ stores j (λ i. row k (element 0) (λ l. element (word s (7 + 2 * (i * k + l))))) c₀)
+Inv-loop s k c₀ j₀ c j = Filling (λ i. row k (element 0) (λ l. element (word s (7 + 2 * (i * k + l))))) c₀ k j c
 
 abbrev μ-loop : tie.MeasureT-loop
 μ-loop s k c₀ j₀ c j = k - j
@@ -27,11 +27,9 @@ unfolding rowIn
 loop-again c =
     let given = c .before .before .before .before .before .args in
     let j = c .before .before .loop .j in
-    let same : (l : ℕ) → 7 + 2 * (j * given .u .k) + 2 * l ≡ 7 + 2 * (j * given .u .k + l) = λ l. omega arith in (
-      omega arith,
-      stores-turn _ _ j (c .before .before .loop .inv .1)
-          (c .read-elements .ensures ∙ row-same (given .u .k) (element 0) _ _ (λ l h. ap (λ (p : ℕ). element (word (given .s .now) p)) (same l))),
-    )
+    let same : (l : ℕ) → 7 + 2 * (j * given .u .k) + 2 * l ≡ 7 + 2 * (j * given .u .k + l) = λ l. omega arith in
+    filling-more (c .before .before .loop .inv) (c .before .loop-test .taken)
+    (c .read-elements .ensures ∙ row-same (given .u .k) (element 0) _ _ (λ l h. ap (λ (p : ℕ). element (word (given .s .now) p)) (same l)))
 
 pub read-matrix-spec : {M : Type 1} → statement M
 unfolding matrixIn matrix
@@ -41,7 +39,7 @@ read-matrix-spec =
     Inv-loop
     μ-loop
     (λ c. omega arith)
-    (λ c. (omega arith, sym (stores-zero _ _)))
+    (λ c. filling-none)
     (λ c. omega (arith, within c))
     (λ c. omega (arith, within c))
     (λ c. omega (arith, within c))
@@ -51,4 +49,4 @@ read-matrix-spec =
     (λ c. omega arith)
     (λ c. omega arith)
     loop-again
-    (λ c. stores-left _ _ _ _ (c .before .loop .inv .0) (c .loop-test .left) (c .before .loop .inv .1)))
+    (λ c. filling-all (c .before .loop .inv) (c .loop-test .left)))

@@ -1,12 +1,13 @@
 -- `ready_from` is the pair to keep and the four numbers for each box, from the k lowest-numbered senders held. The loop's
 -- invariant: the first j places have their fours, and the next box's number is j + 1. Assumes nothing.
-use mathlib.Core.Path.{_≡_, sym, _∙_}
-use Prim.Native.Nat.{_+_, _-_, _≤_}
+use mathlib.Core.Path.{_≡_, _∙_}
+use Prim.Native.Nat.{_+_, _-_}
 use native.Mathlib.Omega.{arith}
 use lib.ListN.{replicate}
 use borrow.Author.Needs.{needs}
 use Rattle.folds.specs.Found.{found5}
-use Rattle.folds.specs.Stores.{stores, stores-zero, stores-turn, stores-left, stores-same}
+use Rattle.folds.specs.Stores.{stores-same}
+use Rattle.folds.specs.Loops.{Filling, filling-none, filling-more, filling-all}
 use Rattle.rules.specs.Matrices.{zeroFour, toBoxes}
 use Rattle.interpolation.specs.Points.{saidBy}
 use Rattle.interpolation.specs.Lagrange.{fourThrough, Sides}
@@ -16,7 +17,7 @@ use Rattle.record_points.proofs.ready_from.Tie as tie
 
 abbrev Inv-loop : tie.InvT-loop
 Inv-loop q k n rows columns inverse pair fours₀ j₀ number₀ fours j number =
-    (j ≤ n) × (number ≡ j + 1) × (fours ≡ stores j (λ l. fourThrough q (saidBy rows) (saidBy columns) (l + 1)) (replicate 10 zeroFour))
+    (number ≡ j + 1) × Filling (λ l. fourThrough q (saidBy rows) (saidBy columns) (l + 1)) (replicate 10 zeroFour) n j fours
 
 abbrev μ-loop : tie.MeasureT-loop
 μ-loop q k n rows columns inverse pair fours₀ j₀ number₀ fours j number = n - j
@@ -38,13 +39,13 @@ inverses-requires c κs =
 
 loop-again : tie.Need-loop-again Inv-loop μ-loop
 loop-again c =
-    let loop = c .before .before .loop in
-    (omega arith, omega arith, stores-turn _ _ _ (loop .inv .2) (rw (loop .inv .1) at (c .four-at .ensures)))
+    let turn = c .before in
+    let inv = turn .before .loop .inv in
+    (omega arith, filling-more (inv .1) (turn .loop-test .taken) (rw (inv .0) at (c .four-at .ensures)))
 
 returns : tie.Need-returns Inv-loop μ-loop
 unfolding toBoxes
 returns c =
-    let loop = c .before .loop in
     let made = c .before .before in
     let both = made .before .before in
     let start = both .before .before in
@@ -52,7 +53,7 @@ returns c =
     let rows = both .before .points-held .ensures in
     let ready = four-ready (a .q) (a .k) (start .pre .0) (a .places) in (
       (rw rows at (made .pair-at .ensures)) ∙ pair-ready (a .q) (a .k) (start .pre .0) (a .places),
-      stores-left _ _ (loop .j) (a .n) (loop .inv .0) (c .loop-test .left) (loop .inv .2)
+      filling-all (c .before .loop .inv .1) (c .loop-test .left)
           ∙ stores-same _ _ _ (a .n) (λ j l. rw (rows, both .points-held2 .ensures) (ready (j + 1))),
     )
 
@@ -66,7 +67,7 @@ ready-from-spec =
     (λ c κs. search needs)
     inverses-requires
     (λ c κs. sides c .based)
-    (λ c. (omega arith, omega arith, sym (stores-zero _ _)))
+    (λ c. (omega arith, filling-none))
     (λ c κs. sides (c .before .before .before))) (search needs)
     loop-again
     returns)

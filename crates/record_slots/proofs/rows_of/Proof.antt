@@ -1,17 +1,16 @@
 -- `rows_of` is the rows of a matrix. The loop's invariant: the rows before j are stored. Assumes nothing.
-use mathlib.Core.Path.{_≡_, refl, sym, _∙_}
-use mathlib.Core.List.{[], map}
-use Prim.Native.Nat.{_-_, _≤_}
-use native.Mathlib.Omega.{arith}
-use lib.ListN.{length, getD, length-map, List·getD-map}
+use mathlib.Core.Path.{_≡_, refl}
+use mathlib.Core.List.{[]}
+use Prim.Native.Nat.{_-_}
+use lib.ListN.{length, getD}
 use borrow.Author.Needs.{needs}
-use Rattle.folds.specs.Stores.{stores, stores-zero, stores-turn, stores-left, stores-is}
+use Rattle.folds.specs.Loops.{Filling, filling-none, filling-more, filling-map}
 use Rattle.rules.specs.Steps.{rowOf}
 use Rattle.record_slots.proofs.rows_of.Statement.{statement}
 use Rattle.record_slots.proofs.rows_of.Tie as tie
 
 abbrev Inv-loop : tie.InvT-loop
-Inv-loop c rows₀ j₀ rows j = (j ≤ 8) × (rows ≡ stores j (λ i. rowOf (getD c i [])) rows₀)
+Inv-loop c rows₀ j₀ rows j = Filling (λ i. rowOf (getD c i [])) rows₀ 8 j rows
 
 abbrev μ-loop : tie.MeasureT-loop
 μ-loop c rows₀ j₀ rows j = 8 - j
@@ -19,11 +18,8 @@ abbrev μ-loop : tie.MeasureT-loop
 returns : tie.Need-returns Inv-loop μ-loop
 returns c =
     let l = c .before .before .args .t1 in
-    let loop = c .before .loop in
     let len : length l ≡ 8 = search needs in
-    stores-left _ _ (loop .j) 8 (loop .inv .0) (c .loop-test .left) (loop .inv .1)
-    ∙ stores-is (λ i. rowOf (getD l i [])) _ 8 (map rowOf l) (rowOf []) refl (length-map l rowOf ∙ len)
-    (λ i lt. sym (List·getD-map rowOf l i []))
+    filling-map rowOf l [] (c .before .loop .inv) (c .loop-test .left) refl len
 
 pub rows-of-spec : {M : Type 1} → statement M
 rows-of-spec =
@@ -31,12 +27,12 @@ rows-of-spec =
     (tie.spec
     Inv-loop
     μ-loop
-    (λ c. (omega arith, sym (stores-zero _ _)))
+    (λ c. filling-none)
     (λ c. search needs)
     (λ c. search needs)
     (λ c. search needs)
     (λ c. search needs)
     (λ c. search needs)
     (λ c. search needs)
-    (λ c. (omega arith, stores-turn _ _ _ (c .before .before .loop .inv .1) refl))
+    (λ c. filling-more (c .before .before .loop .inv) (c .before .loop-test .taken) refl)
     returns)

@@ -1,10 +1,10 @@
 -- `matrix_row` is one row of the matrix. The loop's invariant: the first l entries are stored. Assumes nothing.
-use mathlib.Core.Path.{_≡_, sym, ap, _∙_}
+use mathlib.Core.Path.{ap, _∙_}
 use Prim.Native.Nat.{_+_, _*_, _-_, _≤_}
 use native.Mathlib.Omega.{arith}
 use borrow.Author.Needs.{needs}
 use Rattle.folds.specs.Found.{found4}
-use Rattle.folds.specs.Stores.{stores, stores-zero, stores-turn, stores-left}
+use Rattle.folds.specs.Loops.{Filling, filling-none, filling-more, filling-all}
 use Rattle.rules.specs.Numbers.{element}
 use Rattle.rules.specs.Matrices.{row}
 use Rattle.rules.specs.Text.{numberAt}
@@ -15,7 +15,7 @@ use Rattle.sheet_form.proofs.matrix_row.Statement.{statement}
 use Rattle.sheet_form.proofs.matrix_row.Tie as tie
 
 abbrev Inv-loop : tie.InvT-loop
-Inv-loop b k j at row₀ l₀ row l = (l ≤ k) × (row ≡ stores l (λ n. element (numberAt b (matrixPlace b) (j * k + n))) row₀)
+Inv-loop b k j at row₀ l₀ row l = Filling (λ n. element (numberAt b (matrixPlace b) (j * k + n))) row₀ k l row
 
 abbrev μ-loop : tie.MeasureT-loop
 μ-loop b k j at row₀ l₀ row l = k - l
@@ -32,11 +32,11 @@ loop-again c =
     let loop = c .before .before in
     let given = loop .before .before .before .args in
     let place = loop .before .matrix-place .ensures in
-    (omega arith, stores-turn _ _ _ (loop .loop .inv .1) (ap element (c .number-at .ensures ∙ ap (λ p. numberAt (given .b .now) p (given .j * given .k + loop .loop .l)) place)))
+    filling-more (loop .loop .inv) (c .before .loop-test .taken) (ap element (c .number-at .ensures ∙ ap (λ p. numberAt (given .b .now) p (given .j * given .k + loop .loop .l)) place))
 
 returns : tie.Need-returns Inv-loop μ-loop
 unfolding sheetRow row
-returns c = stores-left _ _ _ _ (c .before .loop .inv .0) (c .loop-test .left) (c .before .loop .inv .1)
+returns c = filling-all (c .before .loop .inv) (c .loop-test .left)
 
 pub matrix-row-spec : {M : Type 1} → statement M
 matrix-row-spec =
@@ -45,7 +45,7 @@ matrix-row-spec =
     Inv-loop
     μ-loop
     (λ c κs. search needs)
-    (λ c. (omega arith, sym (stores-zero _ _)))
+    (λ c. filling-none)
     (λ c. omega (arith, room c))
     (λ c. omega (arith, room c))
     (λ c. omega (arith, room c))
