@@ -222,6 +222,7 @@ pub two-secrets-look-the-same : (c : Class) → groupKeeps (c .numbers) ≡ true
     → Few (c .numbers) (c .breaks) → c .breaks (c .numbers .d) ≡ false
     → (secret secret′ : ℕ) → secret < order (c .numbers) → secret′ < order (c .numbers)
     → (coins : List ℕ) → coinsKeep (c .numbers) secret coins ≡ true
-    → (script : List Event) → Uncommanded c (played secret coins script)
-    → Alike c (played secret coins script) (played secret′ (matching (c .numbers) (c .breaks) secret secret′ coins) script)
+    → (script : List Event) → Uncommanded c (played (c .numbers) secret coins script)
+    → Alike c (played (c .numbers) secret coins script)
+    (played (c .numbers) secret′ (matching (c .numbers) (c .breaks) secret secret′ coins) script)
 two-secrets-look-the-same = Hiding.hides

@@ -20,13 +20,13 @@ pub mod Dealt
 pub mod Ripe
 pub mod TwoLives
 use mathlib.Core.Path.{_≡_, refl, sym, ap, ap₂, _∙_, subst}
-use mathlib.Core.Bool.{true, false, not}
+use mathlib.Core.Bool.{Bool, true, false, not}
 use mathlib.Core.Logic.{inl, inr}
 use mathlib.Core.List.{List, [], _∷_, _++_, map}
 use Prim.Native.Nat.{ℕ, _<_}
 use lib.Dec.{eqb}
 use borrow.Author.Tests.{eqb-true, not-true}
-use Rattle.folds.specs.Tests.{_and_, and-left, and-right, pick-either, pick-two}
+use Rattle.folds.specs.Tests.{_and_, pick, and-left, and-right, pick-either, pick-two}
 use Rattle.rules.specs.declared.Record.{Record}
 use Rattle.rules.specs.declared.SetUp.{SetUp}
 use Rattle.rules.specs.Numbers.{groupKeeps, isBox, numbersKeep}
@@ -40,19 +40,19 @@ use Hypotheses.{Given, zed-on-set}
 use SentTwice.{set-bytes}
 use Steps.{matrix-moved, e-moved, r-moved}
 use Arrivals.{forged, handed-on}
-use TwoLives.{unmarked-before, Both, both-new, both-deals, both-gets, both-commanded, Sent, both-sent}
+use TwoLives.{unmarked-before, Both, both-new, both-deals, both-refused, both-gets, both-commanded, Sent, both-sent}
 
 -- ---- one script for two deals
 
--- the script, where the dealer deals this secret with these coins
-abbrev pub dealing : ℕ → List ℕ → Event → Event
-dealing secret coins (deal-at i s cs lent) = deal-at i secret coins lent
-dealing secret coins (hand-on from to place lent) = hand-on from to place lent
-dealing secret coins (forge from to bytes lent) = forge from to bytes lent
-dealing secret coins (command-at i lent) = command-at i lent
+-- the script, where the dealer deals this secret with these coins; a deal of coins that get 14 stays as it is
+abbrev pub dealing : SetUp → ℕ → List ℕ → Event → Event
+dealing u secret coins (deal-at i s cs lent) = deal-at i (pick (coinsKeep u s cs) secret s) (pick (coinsKeep u s cs) coins cs) lent
+dealing u secret coins (hand-on from to place lent) = hand-on from to place lent
+dealing u secret coins (forge from to bytes lent) = forge from to bytes lent
+dealing u secret coins (command-at i lent) = command-at i lent
 
-unfoldable pub played : ℕ → List ℕ → List Event → List Event
-played secret coins script = map (dealing secret coins) script
+unfoldable pub played : SetUp → ℕ → List ℕ → List Event → List Event
+played u secret coins script = map (dealing u secret coins) script
 
 -- ---- no recovery has been commanded
 
@@ -107,10 +107,10 @@ pub record Alike (c : Class) (es es′ : List Event) : Type 0 where
 
 module _ (t : Twice) (h : Given t) where
   abbrev first : List Event → List Event
-  first script = played (t .s) (t .coins) script
+  first script = played (numbers t) (t .s) (t .coins) script
 
   abbrev second : List Event → List Event
-  second script = played (t .s′) (coins′ t) script
+  second script = played (numbers t) (t .s′) (coins′ t) script
 
   -- what a box has at the end of a script
   abbrev Linked : List Event → ℕ → Type 0
@@ -122,7 +122,14 @@ module _ (t : Twice) (h : Given t) where
 
   before : (e : Event) (es : List Event) → Uncommanded (t .class) (first (e ∷ es)) → Uncommanded (t .class) (first es)
   unfolding played
-  before e es = earlier (t .class) (dealing (t .s) (t .coins) e) (first es)
+  before e es = earlier (t .class) (dealing (numbers t) (t .s) (t .coins) e) (first es)
+
+  -- a deal of the script: the run's own, or one that both refuse
+  dealt-linked : (i : ℕ) → isBox (numbers t) i ≡ true → (cs cs′ : List Call) → Both t i cs cs′ → (s : ℕ) (l : List ℕ) (lent : ℕ) (own : Bool)
+      → coinsKeep (numbers t) s l ≡ own
+      → Both t i (deals (pick own (t .s) s) (pick own (t .coins) l) lent ∷ cs) (deals (pick own (t .s′) s) (pick own (coins′ t) l) lent ∷ cs′)
+  dealt-linked i b cs cs′ v s l lent true e = both-deals t h i b cs cs′ v lent
+  dealt-linked i b cs cs′ v s l lent false e = both-refused t h i b cs cs′ v s l lent e
 
   -- a message handed on, if there is one
   handed-linked : (i from lent : ℕ) → isBox (numbers t) i ≡ true → (l l′ : List (List ℕ)) (cs cs′ : List Call)
@@ -138,7 +145,7 @@ module _ (t : Twice) (h : Given t) where
   linked (deal-at at secret coins lent ∷ es) u i k =
       let v = linked es (before (deal-at at secret coins lent) es u) i k in
       pick-two (Both t i) (eqb at i and keeps (t .class) i) _ _ _ _
-      (λ e. both-deals t h i (box-of i k) _ _ v lent)
+      (λ e. dealt-linked i (box-of i k) _ _ v secret coins lent (coinsKeep (numbers t) secret coins) refl)
       (λ e. v)
   linked (hand-on from to place lent ∷ es) u i k =
       let m = before (hand-on from to place lent) es u in
@@ -219,8 +226,8 @@ pub hides : (c : Class) → groupKeeps (c .numbers) ≡ true → numbersKeep (ow
     → Few (c .numbers) (c .breaks) → c .breaks (c .numbers .d) ≡ false
     → (s s′ : ℕ) → s < order (c .numbers) → s′ < order (c .numbers)
     → (coins : List ℕ) → coinsKeep (c .numbers) s coins ≡ true
-    → (script : List Event) → Uncommanded c (played s coins script)
-    → Alike c (played s coins script) (played s′ (matching (c .numbers) (c .breaks) s s′ coins) script)
+    → (script : List Event) → Uncommanded c (played (c .numbers) s coins script)
+    → Alike c (played (c .numbers) s coins script) (played (c .numbers) s′ (matching (c .numbers) (c .breaks) s s′ coins) script)
 hides c group numbers few dealer s s′ low low′ coins keep script u =
     alike (record { class = c; s = s; s′ = s′; coins = coins })
     (record { group-keeps = group; numbers-keep = numbers; few = few; dealer = dealer; low = low; low′ = low′; coins-keep = keep })

@@ -172,11 +172,11 @@ sight p =
       marked-4 = false;
     }
 
-looks : lookAt (replay room (played 5 coins script)) ≡ sight (pair 9 4)
+looks : lookAt (replay room (played numbers 5 coins script)) ≡ sight (pair 9 4)
 unfolding computed doing messageTo keeps mayBreak takes life found boxNext seenNext next replay sameList sameLists played
 looks = refl
 
-looks* : lookAt (replay room (played 6 coins* script)) ≡ sight (pair 8 0)
+looks* : lookAt (replay room (played numbers 6 coins* script)) ≡ sight (pair 8 0)
 unfolding computed doing messageTo keeps mayBreak takes life found boxNext seenNext next replay sameList sameLists played
 looks* = refl
 
@@ -241,12 +241,12 @@ as-computed es p h =
           (ap (λ l. l .marked-2) all) (ap (λ l. l .marked-3) all) (ap (λ l. l .marked-4) all);
     }
 
-pub with-5 : Happens (played 5 coins script) (pair 9 4)
-with-5 = as-computed (played 5 coins script) (pair 9 4) looks
+pub with-5 : Happens (played numbers 5 coins script) (pair 9 4)
+with-5 = as-computed (played numbers 5 coins script) (pair 9 4) looks
 
-pub with-6 : Happens (played 6 (matching numbers set 5 6 coins) script) (pair 8 0)
+pub with-6 : Happens (played numbers 6 (matching numbers set 5 6 coins) script) (pair 8 0)
 with-6 =
-    subst (λ (cs : List ℕ). Happens (played 6 cs script) (pair 8 0)) (sym matches) (as-computed (played 6 coins* script) (pair 8 0) looks*)
+    subst (λ (cs : List ℕ). Happens (played numbers 6 cs script) (pair 8 0)) (sym matches) (as-computed (played numbers 6 coins* script) (pair 8 0) looks*)
 
 -- the pair that box 2 keeps is another: with the pair of box 1 the one gives the secret 5, and the other the secret 6
 abbrev recovers : Pair → Pair
@@ -266,5 +266,5 @@ numbers-keep : numbersKeep (own numbers 2) ≡ true
 unfolding computed
 numbers-keep = refl
 
-pub hidden : Alike room (played 5 coins script) (played 6 (matching numbers set 5 6 coins) script)
+pub hidden : Alike room (played numbers 5 coins script) (played numbers 6 (matching numbers set 5 6 coins) script)
 hidden = hides room group-keeps numbers-keep few refl 5 6 low-5 low-6 coins coins-keep script (with-5 .uncommanded)

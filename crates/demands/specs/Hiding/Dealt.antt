@@ -1,14 +1,15 @@
 -- A deal in two runs: the same answer, and the second dealer's sends are the first's, moved.
 --
--- In order: the polynomials that are dealt; the two steps; the deal.
+-- In order: the polynomials that are dealt; the two steps; the deal, and one that both runs refuse.
 -- Assumes nothing.
 use mathlib.Core.Path.{_≡_, refl, sym, ap, ap₂, subst, _∙_}
-use mathlib.Core.Bool.{true, not}
+use mathlib.Core.Bool.{true, false, not}
 use mathlib.Core.Logic.{inr}
 use mathlib.Core.List.{List}
 use Prim.Native.Nat.{ℕ, _*_, _<_}
 use lib.Dec.{eqb}
 use borrow.Author.Tests.{eqb-true}
+use Rattle.folds.specs.Tests.{true≢false}
 use Rattle.rules.specs.declared.Exponent.{Exponent}
 use Rattle.rules.specs.declared.Polynomials.{Polynomials}
 use Rattle.rules.specs.declared.Record.{Record}
@@ -88,13 +89,18 @@ module _ (t : Twice) (h : Given t) where
 
     -- ---- the deal
 
-    rows-same : sound x ≡ true → sound (movedRecord t i x) ≡ true → (buffer : List ℕ)
-        → firstRow (dealRows x (t .s) (t .coins) (length buffer)) ≡ firstRow (dealRows (movedRecord t i x) (t .s′) (coins′ t) (length buffer))
-    unfolding dealRows ownDealRows coinsKeep
-    rows-same hx hy buffer =
+    -- by the same row, where the coins of both keep their rule or neither's
+    rows-same : sound x ≡ true → sound (movedRecord t i x) ≡ true → (s s′ : ℕ) (cs cs′ buffer : List ℕ)
+        → coinsKeep (x .setup) s cs ≡ coinsKeep (x .setup) s′ cs′
+        → firstRow (dealRows x s cs (length buffer)) ≡ firstRow (dealRows (movedRecord t i x) s′ cs′ (length buffer))
+    unfolding dealRows ownDealRows
+    rows-same hx hy s s′ cs cs′ buffer same =
         call-alike x _ (length buffer) _ _ hx hy
-        (row-alike _ _ _ _ refl refl refl (λ z13.
-        row-alike _ _ _ _ refl refl (rw own-setup (ap not (h .coins-keep ∙ sym (coins-keep′ t h)))) (λ z14. refl)))
+        (row-alike _ _ _ _ refl refl refl (λ z13. row-alike _ _ _ _ refl refl (ap not same) (λ z14. refl)))
+
+    own-keep : (s : ℕ) (cs : List ℕ) → coinsKeep (x .setup) s cs ≡ coinsKeep (numbers t) s cs
+    unfolding coinsKeep
+    own-keep s cs = rw own-setup
 
     by-dealer : (buffer : List ℕ) → firstOf (dealRows x (t .s) (t .coins) (length buffer)) ≡ 0 → i ≡ numbers t .d
     by-dealer buffer e =
@@ -106,4 +112,15 @@ module _ (t : Twice) (h : Given t) where
     unfolding deal
     deal-alike hx hy buffer =
         answered-alike t i _ _ _ _ x (movedRecord t i x) buffer
-        (ap (λ (r : Refusal). r .number) (rows-same hx hy buffer)) (λ e. deal-step (by-dealer buffer e)) (λ e. refl)
+        (ap (λ (r : Refusal). r .number) (rows-same hx hy (t .s) (t .s′) (t .coins) (coins′ t) buffer
+        (own-keep (t .s) (t .coins) ∙ h .coins-keep ∙ sym (own-keep (t .s′) (coins′ t) ∙ coins-keep′ t h))))
+        (λ e. deal-step (by-dealer buffer e)) (λ e. refl)
+
+    -- a deal that both refuse
+    pub refused-alike : sound x ≡ true → sound (movedRecord t i x) ≡ true → (s : ℕ) (cs buffer : List ℕ) → coinsKeep (numbers t) s cs ≡ false
+        → DoneAlike t i (deal x s cs buffer) (deal (movedRecord t i x) s cs buffer)
+    unfolding deal
+    refused-alike hx hy s cs buffer bad =
+        answered-alike t i _ _ _ _ x (movedRecord t i x) buffer
+        (ap (λ (r : Refusal). r .number) (rows-same hx hy s s cs cs buffer refl))
+        (λ e. absurd (true≢false (sym (deal-passed x s cs (length buffer) e .keeps) ∙ own-keep s cs ∙ bad))) (λ e. refl)

@@ -20,6 +20,7 @@ use Rattle.rules.specs.declared.SetUp.{SetUp}
 use Rattle.rules.specs.declared.Slot.{Slot}
 use Rattle.rules.specs.Numbers.{isBox}
 use Rattle.rules.specs.Messages.{Message, send, echo, ready, recovery, tagIn, messageIn, bytesOf}
+use Rattle.rules.specs.Dealing.{coinsKeep}
 use Rattle.rules.specs.Record.{sharesKept, zeroSlot, newRecord, sound}
 use Rattle.rules.specs.Steps.{Step, heard, withSlot, withShares, quiet, lowest, sendStep, readySent, completing, completed, recovering, shareStep, messageStep, dealStep, recoverStep, completionDue, pointAt, pointStep, readyDue}
 use Rattle.rules.specs.Answers.{firstOf, Done, accepted, refused, answered, dealRows, deal, recoverRows, recover, deliverRows, refusalHeard, deliver, ownRecoverRows, Refusal, firstRow}
@@ -36,7 +37,7 @@ use Rattle.demands.specs.Hiding.SentTwice.{Proper, twin-to, Twins, twins
 use Rattle.demands.specs.Hiding.Outcomes.{DoneAlike, answered-alike, row-alike, call-alike}
 use Rattle.demands.specs.Hiding.Arrivals.{Arrives}
 use Rattle.demands.specs.Hiding.Deliveries.{deliver-alike}
-use Rattle.demands.specs.Hiding.Dealt.{deal-alike}
+use Rattle.demands.specs.Hiding.Dealt.{deal-alike, refused-alike}
 use Rattle.demands.specs.Hiding.Ripe.{Honest, ripe-if-sent}
 
 -- ---- the mark never goes back
@@ -218,6 +219,13 @@ module _ (t : Twice) (h : Given t) (i : ℕ) (box-i : isBox (numbers t) i ≡ tr
     both-deals lent =
         more cs cs′ (deals (t .s) (t .coins) lent) (deals (t .s′) (coins′ t) lent) w
         (deal-alike t h i x own-setup is-sound moved-sound (replicate lent 0))
+        (w .honest)
+
+    pub both-refused : (s : ℕ) (l : List ℕ) (lent : ℕ) → coinsKeep (numbers t) s l ≡ false → Both t i (deals s l lent ∷ cs) (deals s l lent ∷ cs′)
+    unfolding doing Honest
+    both-refused s l lent bad =
+        more cs cs′ (deals s l lent) (deals s l lent) w
+        (refused-alike t h i x own-setup is-sound moved-sound s l (replicate lent 0) bad)
         (w .honest)
 
     pub both-gets : (from : ℕ) (bytes bytes′ : List ℕ) (lent : ℕ) → Arrives t i from bytes bytes′ → x .progress .commanded ≡ false
