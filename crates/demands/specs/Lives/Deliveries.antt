@@ -41,7 +41,7 @@ use Rattle.rules.specs.Laws.Passed.{Passed, rows-passed}
 use Rattle.rules.specs.Laws.Kept.Changes.{Good, hears-own, hears-stays}
 use Rattle.demands.specs.Histories.{Call, deals, gets, commanded, doing, wrote}
 use Rattle.demands.specs.Lives.Terms.{checksNow, shareNow, isEcho, isReady}
-use Rattle.demands.specs.Lives.Stepped.{JustNow, Stays, as-before, stepOf, stepped, shared}
+use Rattle.demands.specs.Lives.Stepped.{JustNow, Stays, as-before, OwnMarks, stepOf, stepped, shared}
 use Rattle.demands.specs.Lives.Took.{Took, sendsNow, took}
 use Rattle.demands.specs.Lives.Turns.{next, takes, keeps, Turn, Untouched, untouched-heard, untouched-same, Tells, tells-refused, quiet-turned, quiet-way, turn-deals, turn-commanded}
 
@@ -76,12 +76,13 @@ module _ (x : Record) (g : Good x) (sender : ℕ) (bytes : List ℕ) (lent : ℕ
   out-refused d = ap (λ (o : Done). o .outcome) (answered-refused number _ _ (replicate lent 0) d)
 
   refused-tells : (n : ℕ) → Tells x (refused n (refusalHeard marks x sender bytes))
-  unfolding refusalHeard
+  unfolding refusalHeard heard
   refused-tells n =
       tells-refused x n (refusalHeard marks x sender bytes)
       (pick-either (Untouched x) marks (heard x (tagIn bytes) (sender - 1)) x
       (λ e. untouched-heard x (tagIn bytes) (sender - 1))
       (λ e. untouched-same x))
+      (pick-either (λ (y : Record). y .progress ≡ x .progress) marks (heard x (tagIn bytes) (sender - 1)) x (λ e. refl) (λ e. refl))
 
   turn-refused : (number ≡ 0 → ⊥) → Turn x it
   unfolding checksNow shareNow refused
@@ -143,6 +144,7 @@ module _ (x : Record) (g : Good x) (sender : ℕ) (bytes : List ℕ) (lent : ℕ
           ready = refl;
           echoes = λ q.
               rw (← has-passed .hearing .dealer h) (rw h at (has-passed .hearing .unheard), hears-own x (g .shape) 1 (sender - 1) (omega arith) below-ten);
+          marks = record { dealt = refl; commanded = refl };
         }
 
     turn-send : tagIn bytes ≡ 1 → Turn x it
@@ -188,6 +190,7 @@ module _ (x : Record) (g : Good x) (sender : ℕ) (bytes : List ℕ) (lent : ℕ
             stays = rw to (tk .stays);
             ears = λ a i q. rw (to, st .ears) (hears-stays x (ear b + 1) (sender - 1) a i q);
             echoes = λ q. absurd (true≢false (sym q ∙ ap (λ (o : Outcome). isEcho (o .answer .sent)) out ∙ st .echo));
+            marks = subst (λ (o : Outcome). OwnMarks (x .progress) (o .next .progress) (o .answer .sent)) (sym out) (st .marks);
           };
           good = good-after;
           way = takes b (sender - 1) C f (sendsNow b x (sender - 1) C f) (record {
@@ -236,6 +239,7 @@ module _ (x : Record) (g : Good x) (sender : ℕ) (bytes : List ℕ) (lent : ℕ
             stays = λ r q. rw (to, st .slots) (q, refl);
             ears = λ a i q. rw (to, st .ears) (hears-stays x 4 (sender - 1) a i q);
             echoes = λ q. absurd (true≢false (sym q ∙ ap (λ (o : Outcome). isEcho (o .answer .sent)) out ∙ st .echo));
+            marks = subst (λ (o : Outcome). OwnMarks (x .progress) (o .next .progress) (o .answer .sent)) (sym out) (st .marks);
           };
           good = good-after;
           way = keeps (sender - 1) p (record {

@@ -14,7 +14,8 @@ use Rattle.rules.specs.declared.Element.{Element}
 use Rattle.rules.specs.declared.Four.{Four}
 use Rattle.rules.specs.declared.Record.{Record}
 use Rattle.rules.specs.Dealing.{matrixPasses, pointCheck}
-use Rattle.rules.specs.Record.{groupIn, marked, sameMatrix}
+use Rattle.rules.specs.Record.{groupIn, isDone, marked, sameMatrix}
+use Rattle.rules.specs.Steps.{taken, completionDue}
 use Rattle.rules.specs.declared.Side.{Side}
 use Rattle.rules.specs.declared.Side.the-variants.{ByEcho, ByReady}
 use Rattle.rules.specs.Laws.Facts.{marksOf, ear}
@@ -47,6 +48,8 @@ pub record Touched (x : Record) (c : Call) (D : List (List Element)) (b : Side) 
   pub four : fourOf x c ≡ f
   pub passes : matrixPasses (groupIn x) (x .setup .k) D ≡ true
   pub check : pointCheck (groupIn x) (x .setup .k) D (x .setup .i) (m + 1) f ≡ true
+  pub completes : sends ≡ false → completionDue (x .setup) b (taken b (slotOf x D) m f) ≡ true
+      → isDone (next x c .progress .completion) ≡ true
 
 pub data View (x : Record) (c : Call) (D : List (List Element)) : Type 0 where
   aside : Aside x c D → View x c D
@@ -98,6 +101,7 @@ module _ (x : Record) (g : Good x) (c : Call) (D : List (List Element)) where
           four = t .four;
           passes = passes-agree (groupIn x) (x .setup .k) C D h (t .passes);
           check = sym (point-agree (groupIn x) (x .setup .k) C D h (x .setup .i) (m + 1) f) ∙ t .check;
+          completes = t .took .completes D h;
         })
       where
         here : (tag i : ℕ) → checksNow x c tag i D ≡ eqb (m + 1) i and eqb (ear b + 1) tag

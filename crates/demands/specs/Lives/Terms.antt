@@ -93,19 +93,25 @@ keptFor x C = pick (ltb (ownSlot x C) 20) (slotAt x (ownSlot x C) .pair .kept) A
 
 -- ---- what a box has sent
 
+-- the tag of it, and 0 of nothing
+abbrev pub tagSent : Sent → ℕ
+tagSent Nothing = 0
+tagSent Send = 1
+tagSent Echo = 2
+tagSent Ready = 3
+tagSent Recovery = 4
+
+abbrev pub isSend : Sent → Bool
+isSend what = eqb (tagSent what) 1
+
 abbrev pub isEcho : Sent → Bool
-isEcho Nothing = false
-isEcho Send = false
-isEcho Echo = true
-isEcho Ready = false
-isEcho Recovery = false
+isEcho what = eqb (tagSent what) 2
 
 abbrev pub isReady : Sent → Bool
-isReady Nothing = false
-isReady Send = false
-isReady Echo = false
-isReady Ready = true
-isReady Recovery = false
+isReady what = eqb (tagSent what) 3
+
+abbrev pub isRecovery : Sent → Bool
+isRecovery what = eqb (tagSent what) 4
 
 -- how many of a list pass a test
 unfoldable pub howMany : {A : Type 0} → (A → Bool) → List A → ℕ

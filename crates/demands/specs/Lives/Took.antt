@@ -21,8 +21,8 @@ use Rattle.rules.specs.declared.Record.{Record}
 use Rattle.rules.specs.declared.SetUp.{SetUp}
 use Rattle.rules.specs.declared.Slot.{Slot}
 use Rattle.rules.specs.Numbers.{groupOf}
-use Rattle.rules.specs.Record.{groupIn, slotAt, marked, placeAt, matrixOf, countE, countR, sameMatrix, noSlot}
-use Rattle.rules.specs.Steps.{mark, points, pairFrom, slotFor, opened, firstPoint, holding, keeping, taken, readyDue}
+use Rattle.rules.specs.Record.{groupIn, slotAt, marked, placeAt, matrixOf, countE, countR, isDone, sameMatrix, noSlot}
+use Rattle.rules.specs.Steps.{mark, points, pairFrom, slotFor, opened, firstPoint, holding, keeping, taken, readyDue, completionDue}
 use Rattle.rules.specs.Laws.Shape.{ShapedSlot}
 use Rattle.rules.specs.declared.Side.{Side}
 use Rattle.rules.specs.declared.Side.the-variants.{ByEcho, ByReady}
@@ -76,6 +76,9 @@ pub record Took (x y : Record) (b : Side) (m : ℕ) (C : List (List Element)) (f
   pub own : (D : List (List Element)) → sameMatrix (x .setup .k) C D ≡ true → SlotTook (x .setup) b m f sends (slotOf x D) (slotOf y D)
   pub other : (D : List (List Element)) → sameMatrix (x .setup .k) C D ≡ false → slotOf y D ≡ slotOf x D
   pub stays : (r : ℕ) → slotAt x r .used ≡ true → (slotAt y r .used ≡ true) × (matrixOf (slotAt y r) ≡ matrixOf (slotAt x r))
+  -- where no ready is sent, the box completes if that is due
+  pub completes : (D : List (List Element)) → sameMatrix (x .setup .k) C D ≡ true → sends ≡ false
+      → completionDue (x .setup) b (taken b (slotOf x D) m f) ≡ true → isDone (y .progress .completion) ≡ true
 
 -- a slot v that took the message into o, an opened one that holds what w does: paired or not
 module _ (x : Record) (b : Side) (m : ℕ) (f : Four) (o w : Slot) (e : o ≡ dressed w (o .rows)) where
@@ -111,11 +114,25 @@ module _ (x : Record) (b : Side) (m : ℕ) (f : Four) (o w : Slot) (e : o ≡ dr
   it-pair true = refl
   it-pair false = ap (λ (v : Slot). v .pair .kept) e
 
+  -- what is due then goes by the counts
+  it-due : (due : SetUp → Side → Slot → Bool)
+      → ((c : Side) → due (x .setup) c (taken b (dressed w (o .rows)) m f) ≡ due (x .setup) c (taken b w m f))
+      → due (x .setup) b (taken b o m f) ≡ due (x .setup) b (taken b w m f)
+  it-due due bare = ap (λ (v : Slot). due (x .setup) b (taken b v m f)) e ∙ bare b
+
   it-test : readyDue (x .setup) b (taken b o m f) ≡ readyDue (x .setup) b (taken b w m f)
   unfolding countE countR
-  it-test = ap (λ (v : Slot). readyDue (x .setup) b (taken b v m f)) e ∙ bare b
+  it-test = it-due readyDue bare
     where
       bare : (c : Side) → readyDue (x .setup) c (taken b (dressed w (o .rows)) m f) ≡ readyDue (x .setup) c (taken b w m f)
+      bare ByEcho = refl
+      bare ByReady = refl
+
+  it-completes : completionDue (x .setup) b (taken b o m f) ≡ completionDue (x .setup) b (taken b w m f)
+  unfolding countR
+  it-completes = it-due completionDue bare
+    where
+      bare : (c : Side) → completionDue (x .setup) c (taken b (dressed w (o .rows)) m f) ≡ completionDue (x .setup) c (taken b w m f)
       bare ByEcho = refl
       bare ByReady = refl
 
@@ -149,6 +166,8 @@ module _ (b : Side) (x : Record) (g : Good x) (m : ℕ) (C : List (List Element)
         });
         other = slot-other x g C s found y gy new (st .slots) (st .setup) used same;
         stays = slot-stays x g C s found y gy new (st .slots) (st .setup) used same;
+        completes = λ D h none due.
+            st .completes none (it-completes x b m f o w e ∙ ap (λ (v : Slot). completionDue (x .setup) b (taken b v m f)) (sym (slot-agree x C D h)) ∙ due);
       }
 
   -- Where ready is sent, the slot is left with its pair.

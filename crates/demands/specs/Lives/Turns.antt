@@ -3,7 +3,7 @@
 -- In order: what holds after every call; the three ways of a call (it takes nothing, it takes an echo or ready, it keeps a recovery share);
 -- each call's way.
 -- Assumes nothing.
-use mathlib.Core.Path.{_≡_, refl, sym, _∙_}
+use mathlib.Core.Path.{_≡_, refl, sym, ap, _∙_}
 use mathlib.Core.Bool.{Bool, true, false}
 use mathlib.Core.List.{List}
 use Prim.Native.Nat.{ℕ, _+_, _-_, _<_}
@@ -32,7 +32,7 @@ use Rattle.rules.specs.Laws.Kept.{deal-kept, recover-kept, good-of}
 use Rattle.rules.specs.Laws.Kept.Changes.{Good, hears-stays}
 use Rattle.demands.specs.Histories.{Call, deals, commanded, doing}
 use Rattle.demands.specs.Lives.Terms.{checksNow, senderOf, fourOf, shareNow, pairOf, isEcho, isReady}
-use Rattle.demands.specs.Lives.Stepped.{JustNow, Stays, as-before}
+use Rattle.demands.specs.Lives.Stepped.{JustNow, Stays, as-before, OwnMarks}
 use Rattle.demands.specs.Lives.Took.{Took, took}
 
 -- ---- after every call
@@ -52,6 +52,7 @@ pub record Turned (x : Record) (c : Call) : Type 0 where
   pub ears : (a i : ℕ) → hears x a i ≡ true → hears (next x c) a i ≡ true
   pub echoes : isEcho (doing x c .outcome .answer .sent) ≡ true
       → (hears x 0 (x .setup .d - 1) ≡ false) × (hears (next x c) 0 (x .setup .d - 1) ≡ true)
+  pub marks : OwnMarks (x .progress) (next x c .progress) (doing x c .outcome .answer .sent)
 
 -- ---- the ways of a call
 
@@ -131,10 +132,18 @@ pub record Tells (x : Record) (o : Outcome) : Type 0 where
   pub completed : o .answer .completed ≡ false
   pub ready : isReady (o .answer .sent) ≡ false
   pub echoes : isEcho (o .answer .sent) ≡ true → (hears x 0 (x .setup .d - 1) ≡ false) × (hears (o .next) 0 (x .setup .d - 1) ≡ true)
+  pub marks : OwnMarks (x .progress) (o .next .progress) (o .answer .sent)
 
-pub tells-refused : (x : Record) (n : ℕ) (after : Record) → Untouched x after → Tells x (refused n after)
+pub tells-refused : (x : Record) (n : ℕ) (after : Record) → Untouched x after → after .progress ≡ x .progress → Tells x (refused n after)
 unfolding refused
-tells-refused x n after h = record { untouched = h; completed = refl; ready = refl; echoes = λ e. absurd (true≢false (sym e)) }
+tells-refused x n after h p =
+    record {
+      untouched = h;
+      completed = refl;
+      ready = refl;
+      echoes = λ e. absurd (true≢false (sym e));
+      marks = record { dealt = ap (λ (v : Progress). v .dealt) p; commanded = ap (λ (v : Progress). v .commanded) p };
+    }
 
 module _ (x : Record) (c : Call) (t : Tells x (doing x c .outcome)) where
   pub quiet-turned : Turned x c
@@ -147,6 +156,7 @@ module _ (x : Record) (c : Call) (t : Tells x (doing x c .outcome)) where
         stays = λ r e. rw (h .slots) (e, refl);
         ears = h .ears;
         echoes = t .echoes;
+        marks = t .marks;
       }
 
   pub quiet-way : ((b : Side) (i : ℕ) (D : List (List Element)) → checksNow x c (ear b + 1) i D ≡ false)
@@ -157,28 +167,30 @@ module _ (x : Record) (c : Call) (t : Tells x (doing x c .outcome)) where
 
 -- ---- the commands
 
-answered-tells : (x : Record) (n : ℕ) (st : Step) (after : Record) (buffer : List ℕ) → Tells x (accepted st) → Untouched x after
-    → Tells x (answered n st after buffer .outcome)
-answered-tells x n st after buffer a b =
-    answered-either n st after buffer (λ (d : Done). Tells x (d .outcome)) (λ e. a) (λ z. tells-refused x n after b)
+answered-tells : (x : Record) (n : ℕ) (st : Step) (buffer : List ℕ) → Tells x (accepted st) → Tells x (answered n st x buffer .outcome)
+answered-tells x n st buffer a =
+    answered-either n st x buffer (λ (d : Done). Tells x (d .outcome)) (λ e. a) (λ z. tells-refused x n x (untouched-same x) refl)
 
 -- what a command that is taken sends and changes
 progress-tells : (x : Record) (v : Progress) (what : Sent) (bytes : List ℕ) → v .completion ≡ x .progress .completion → isReady what ≡ false → isEcho what ≡ false
+    → OwnMarks (x .progress) v what
     → Tells x (accepted (sending (withProgress x v) what bytes))
 unfolding accepted
-progress-tells x v what bytes e r n =
+progress-tells x v what bytes e r n marks =
     record {
       untouched = record { setup = refl; slots = refl; shares = refl; recovered = refl; completion = e; ears = λ a i h. h };
       completed = refl;
       ready = r;
       echoes = λ h. absurd (true≢false (sym h ∙ n));
+      marks = marks;
     }
 
 module _ (x : Record) (g : Good x) where
   pub turn-deals : (secret : ℕ) (coins : List ℕ) (lent : ℕ) → Turn x (deals secret coins lent)
   unfolding doing deal dealStep checksNow shareNow
   turn-deals secret coins lent =
-      let t = answered-tells x _ (dealStep x secret coins) x (replicate lent 0) (progress-tells x _ Send _ refl refl refl) (untouched-same x) in
+      let t = answered-tells x _ (dealStep x secret coins) (replicate lent 0)
+      (progress-tells x _ Send _ refl refl refl (record { dealt = refl; commanded = refl })) in
       record {
         turned = quiet-turned x (deals secret coins lent) t;
         good = let kept = deal-kept x secret coins (replicate lent 0) (facts-sound x (g .facts)) (g .shape) in good-of _ (kept .0) (kept .1);
@@ -188,7 +200,8 @@ module _ (x : Record) (g : Good x) where
   pub turn-commanded : (lent : ℕ) → Turn x (commanded lent)
   unfolding doing recover recoverStep checksNow shareNow
   turn-commanded lent =
-      let t = answered-tells x _ (recoverStep x) x (replicate lent 0) (progress-tells x _ Recovery _ refl refl refl) (untouched-same x) in
+      let t = answered-tells x _ (recoverStep x) (replicate lent 0)
+      (progress-tells x _ Recovery _ refl refl refl (record { dealt = refl; commanded = refl })) in
       record {
         turned = quiet-turned x (commanded lent) t;
         good = let kept = recover-kept x (replicate lent 0) (facts-sound x (g .facts)) (g .shape) in good-of _ (kept .0) (kept .1);
