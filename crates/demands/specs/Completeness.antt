@@ -39,7 +39,7 @@ use Rattle.demands.specs.Histories.{Call, gets, doing, after, wrote, mes
 use Rattle.demands.specs.MessageTo.{message-to}
 use Rattle.demands.specs.Sharing.{group, order, size, Different, dealtPoint, dealtShare, send-passes, echo-passes, ready-passes, points-give}
 use Rattle.demands.specs.Lives.{keptFor, readiesSent, life-sound, kept-then, kept-passes, completed-kept}
-use Rattle.demands.specs.Lives.Slots.{slot-used}
+use Rattle.demands.specs.Lives.Slots.{slot-used, there-some}
 use Rattle.demands.specs.Lives.Born.{good, own-setup, numbers-keep, facts-at}
 use Rattle.demands.specs.Lives.Readies.{used-there, held-differ}
 use Acceptance.{Welcome, welcomed}
@@ -77,10 +77,6 @@ module _ (u : SetUp) (taken : setUp u .answer .no ≡ 0) (cs : List Call) (s : �
       }
 
 -- ---- what a box sends is accepted
-
-there-some : (v : Kept) → isThere v ≡ true → (p : Pair) × (v ≡ There p)
-there-some Absent e = absurd (true≢false (sym e))
-there-some (There p) e = (p, refl)
 
 -- a box's own number is one of the class
 own-box : (u : SetUp) (i : ℕ) → setUp (own u i) .answer .no ≡ 0 → (1 ≤ i) × (i ≤ u .n)

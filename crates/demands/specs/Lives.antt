@@ -17,16 +17,17 @@ pub mod Counts
 pub mod Points
 pub mod Readies
 pub mod Once
+pub mod Completed
+pub mod Commands
 pub mod Recovered
 use mathlib.Core.Path.{_≡_, refl, sym, ap, _∙_, subst}
 use mathlib.Core.Bool.{true, false}
 use mathlib.Core.List.{List, _∷_, _++_}
 use Prim.Native.Nat.{ℕ, _+_, _<_, _≤_}
 use native.Mathlib.Omega.{arith}
-use lib.Dec.{eqb, leb}
+use lib.Dec.{eqb}
 use lib.ListN.{take}
-use borrow.Author.Tests.{le-leb}
-use Rattle.folds.specs.Tests.{pick, or-right}
+use Rattle.folds.specs.Tests.{pick}
 use Rattle.folds.specs.Below.{countBelow, anyBelow-here}
 use Rattle.rules.specs.declared.Answer.{Answer}
 use Rattle.rules.specs.declared.Completion.the-variants.{With}
@@ -38,11 +39,10 @@ use Rattle.rules.specs.declared.Point.the-variants.{Held}
 use Rattle.rules.specs.declared.Sent.the-variants.{Echo}
 use Rattle.rules.specs.declared.SetUp.{SetUp}
 use Rattle.rules.specs.declared.Slot.{Slot}
-use Rattle.rules.specs.Numbers.{echoQuorum}
 use Rattle.rules.specs.Matrices.{entry}
 use Rattle.rules.specs.Messages.{echo, tagIn, matrixIn, polynomialsIn, toEach}
 use Rattle.rules.specs.Dealing.{committed, pointCheck, shareCheck}
-use Rattle.rules.specs.Record.{slotAt, placeAt, shareAt, isHeld, isThere, held, matrixOf, countE, countR, sound}
+use Rattle.rules.specs.Record.{slotAt, placeAt, shareAt, isHeld, isThere, isDone, held, matrixOf, sound}
 use Rattle.rules.specs.Steps.{points, sharePoints, pairFrom, echoFour, recoveredFrom, ownSlot}
 use Rattle.rules.specs.Answers.{setUp}
 use Rattle.rules.specs.Laws.Shape.{Shaped}
@@ -50,12 +50,13 @@ use Rattle.rules.specs.Laws.Sound.{facts-sound}
 use Rattle.demands.specs.Histories.{Call, gets, doing, after, answers, wrote}
 use Rattle.demands.specs.Sharing.{group, order, size}
 unfoldable pub use Terms.*
-use Slots.{slotOf, kept-of, slot-used, slot-there}
+use Slots.{slotOf, r-of, kept-of, slot-used, slot-there}
 use Deliveries.{Echoed, echo-exact}
 use Born.{good, own-setup, numbers-keep, facts-at}
 use Counts.{e-is, r-is, points-are, said-passes}
 use Readies.{used-there, readies-are, kept-now, kept-on, pair-passes}
 use Once.{echo-once, complete-once}
+use Completed.{forced, done-kept, share-kept, completion-on, matrix-on, share-on}
 use Recovered.{shares-are, recovered-is, share-pass, report-open}
 
 -- ---- the statements, of a box that set-up accepted and of any calls
@@ -141,13 +142,23 @@ module _ (u : SetUp) (taken : setUp u .answer .no ≡ 0) (cs : List Call) where
   -- a completed box has a kept pair in its completed place
   pub completed-kept : (s : ℕ) → after u cs .progress .completion ≡ With s
       → (s < 20) × (isThere (slotAt (after u cs) s .pair .kept) ≡ true)
-  completed-kept s e =
-      let x = after u cs in
-      let facts = good u taken cs .facts in
-      let done = facts .progress .completion s e in
-      let many = done .readies in
-      let enough = le-leb (x .setup .k) (countR (slotAt x s)) (omega arith) in
-      (done .within, facts .slots .each s (done .within) .right ∙ or-right (leb (echoQuorum (x .setup)) (countE (slotAt x s))) _ enough)
+  completed-kept s e = done-kept u taken s cs e
+
+  -- k + t readies for a matrix mean completion
+  pub completion-forced : (C : List (List Element)) → u .k + u .t ≤ rOf (after u cs) C → isDone (after u cs .progress .completion) ≡ true
+  completion-forced C many = forced u taken C cs (rw (← r-of (after u cs) C) many)
+
+  -- which stays, with its matrix and its share
+  pub completion-stays : (s : ℕ) (later : List Call) → after u cs .progress .completion ≡ With s
+      → (after u (later ++ cs) .progress .completion ≡ With s)
+      × (matrixOf (slotAt (after u (later ++ cs)) s) ≡ matrixOf (slotAt (after u cs) s))
+      × (slotAt (after u (later ++ cs)) s .pair .kept ≡ slotAt (after u cs) s .pair .kept)
+  completion-stays s later e = (completion-on u taken s cs e later, matrix-on u taken s cs e later, share-on u taken s cs e later)
+
+  -- and its share is the pair kept for its matrix
+  pub share-kept-for : (s : ℕ) → after u cs .progress .completion ≡ With s
+      → slotAt (after u cs) s .pair .kept ≡ keptFor (after u cs) (matrixOf (slotAt (after u cs) s))
+  share-kept-for s e = sym (share-kept u taken s cs e)
 
   -- a kept recovery share passes the share check against the completed matrix
   pub shares-pass : (s m : ℕ) (p : Pair) → after u cs .progress .completion ≡ With s → m < 10 → shareAt (after u cs .shares) m ≡ There p

@@ -38,7 +38,7 @@ turns : (was is now : Bool) → now ≡ (not was and is) → now ≡ true → (w
 turns true is now e h = absurd (true≢false (sym h ∙ e))
 turns false is now e h = (refl, sym e ∙ h)
 
-done-stays : (c c′ : Completion) → Stays c c′ → isDone c ≡ true → isDone c′ ≡ true
+pub done-stays : (c c′ : Completion) → Stays c c′ → isDone c ≡ true → isDone c′ ≡ true
 done-stays NotYet c′ h e = absurd (true≢false (sym e))
 done-stays (With s) c′ h e = ap isDone (h s refl)
 

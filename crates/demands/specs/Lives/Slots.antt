@@ -14,6 +14,9 @@ use borrow.Author.Tests.{ltb-true, lt-ltb}
 use Rattle.folds.specs.Tests.{_and_, pick, pick-false, and-left, and-right, and-intro, decide, true≢false, false-unless, not-true-and-false}
 use Rattle.folds.specs.Below.{countBelow, firstFrom-passes, firstFrom-before, firstFrom-same}
 use Rattle.rules.specs.declared.Element.{Element}
+use Rattle.rules.specs.declared.Kept.{Kept}
+use Rattle.rules.specs.declared.Kept.the-variants.{Absent, There}
+use Rattle.rules.specs.declared.Pair.{Pair}
 use Rattle.rules.specs.declared.Record.{Record}
 use Rattle.rules.specs.declared.SetUp.{SetUp}
 use Rattle.rules.specs.declared.Slot.{Slot}
@@ -185,3 +188,8 @@ slot-there x C e = go (ltb (ownSlot x C) 20) e
         → pick b (slotAt x (ownSlot x C)) zeroSlot ≡ slotAt x (ownSlot x C)
     go true h = refl
     go false h = absurd (true≢false (sym h))
+
+-- what is there
+pub there-some : (v : Kept) → isThere v ≡ true → (p : Pair) × (v ≡ There p)
+there-some Absent e = absurd (true≢false (sym e))
+there-some (There p) e = (p, refl)
