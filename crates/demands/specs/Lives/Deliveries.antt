@@ -41,7 +41,7 @@ use Rattle.rules.specs.Laws.Passed.{Passed, rows-passed}
 use Rattle.rules.specs.Laws.Kept.Changes.{Good, hears-own, hears-stays}
 use Rattle.demands.specs.Histories.{Call, deals, gets, commanded, doing, wrote}
 use Rattle.demands.specs.Lives.Terms.{checksNow, shareNow, isEcho, isReady}
-use Rattle.demands.specs.Lives.Stepped.{JustNow, Stays, as-before, OwnMarks, stepOf, stepped, shared}
+use Rattle.demands.specs.Lives.Stepped.{JustNow, Stays, as-before, OwnMarks, marks-stay, stepOf, stepped, shared}
 use Rattle.demands.specs.Lives.Took.{Took, sendsNow, took}
 use Rattle.demands.specs.Lives.Turns.{next, takes, keeps, Turn, Untouched, untouched-heard, untouched-same, Tells, tells-refused, quiet-turned, quiet-way, turn-deals, turn-commanded}
 
@@ -144,7 +144,7 @@ module _ (x : Record) (g : Good x) (sender : ℕ) (bytes : List ℕ) (lent : ℕ
           ready = refl;
           echoes = λ q.
               rw (← has-passed .hearing .dealer h) (rw h at (has-passed .hearing .unheard), hears-own x (g .shape) 1 (sender - 1) (omega arith) below-ten);
-          marks = record { dealt = refl; commanded = refl };
+          marks = marks-stay _ _ _ refl refl refl refl;
         }
 
     turn-send : tagIn bytes ≡ 1 → Turn x it

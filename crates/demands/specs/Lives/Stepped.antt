@@ -2,7 +2,7 @@
 --
 -- In order: completion; the marks of a deal and of a command; an echo or a ready; a recovery share.
 -- Assumes nothing.
-use mathlib.Core.Path.{_≡_, refl, sym}
+use mathlib.Core.Path.{_≡_, refl, sym, _∙_}
 use mathlib.Core.Bool.{Bool, true, false, not}
 use mathlib.Core.List.{List, []}
 use Prim.Native.Nat.{ℕ, _+_}
@@ -57,10 +57,24 @@ first-done (With r) s = refl
 
 -- ---- the marks of a deal and of a command
 
+-- a mark goes up with what is sent, from no mark, and else stays
+pub record Once (sent was is : Bool) : Type 0 where
+  pub now : is ≡ sent or was
+  pub first : sent ≡ true → was ≡ false
+
 -- a deal marks the dealer as having dealt, a command the box as commanded, and nothing else does
 pub record OwnMarks (v v′ : Progress) (sent : Sent) : Type 0 where
-  pub dealt : v′ .dealt ≡ isSend sent or v .dealt
-  pub commanded : v′ .commanded ≡ isRecovery sent or v .commanded
+  pub dealt : Once (isSend sent) (v .dealt) (v′ .dealt)
+  pub commanded : Once (isRecovery sent) (v .commanded) (v′ .commanded)
+
+-- where neither is sent
+pub marks-stay : (v v′ : Progress) (sent : Sent) → v′ .dealt ≡ v .dealt → v′ .commanded ≡ v .commanded → isSend sent ≡ false → isRecovery sent ≡ false
+    → OwnMarks v v′ sent
+marks-stay v v′ sent d c a b =
+    record {
+      dealt = record { now = rw a d; first = λ e. absurd (true≢false (sym e ∙ a)) };
+      commanded = record { now = rw b c; first = λ e. absurd (true≢false (sym e ∙ b)) };
+    }
 
 -- ---- an echo or a ready
 
@@ -111,7 +125,7 @@ module _ (b : Side) (x : Record) (m s : ℕ) (v : Slot) where
         slots = refl;
         ready = ready;
         echo = echo;
-        marks = record { dealt = rw no-send; commanded = rw no-recovery };
+        marks = marks-stay _ _ _ refl refl no-send no-recovery;
         setup = refl;
         ears = refl;
         shares = refl;
@@ -169,7 +183,7 @@ keeps x m p last w r e =
       ready = refl;
       echo = refl;
       completed = refl;
-      marks = record { dealt = refl; commanded = refl };
+      marks = marks-stay _ _ _ refl refl refl refl;
     }
 
 pub shared : (x : Record) (m : ℕ) (p : Pair) → Shared x m p (eqb (sharesKept (sharing x m p)) (x .setup .k)) (shareStep (heard x 4 m) m p)

@@ -8,7 +8,7 @@ use mathlib.Core.Bool.{Bool, true, false}
 use mathlib.Core.List.{List}
 use Prim.Native.Nat.{ℕ, _+_, _-_, _<_}
 use lib.Dec.{eqb}
-use lib.ListN.{replicate}
+use lib.ListN.{replicate, length}
 use Rattle.folds.specs.Tests.{_and_, pick, true≢false}
 use Rattle.rules.specs.declared.Element.{Element}
 use Rattle.rules.specs.declared.Four.{Four}
@@ -28,11 +28,12 @@ use Rattle.rules.specs.Laws.DemandOne.{answered-either}
 use Rattle.rules.specs.declared.Side.{Side}
 use Rattle.rules.specs.Laws.Facts.{ear, hears}
 use Rattle.rules.specs.Laws.Sound.{facts-sound}
+use Rattle.rules.specs.Laws.Passed.{deal-passed, recover-passed}
 use Rattle.rules.specs.Laws.Kept.{deal-kept, recover-kept, good-of}
 use Rattle.rules.specs.Laws.Kept.Changes.{Good, hears-stays}
 use Rattle.demands.specs.Histories.{Call, deals, commanded, doing}
 use Rattle.demands.specs.Lives.Terms.{checksNow, senderOf, fourOf, shareNow, pairOf, isEcho, isReady}
-use Rattle.demands.specs.Lives.Stepped.{JustNow, Stays, as-before, OwnMarks}
+use Rattle.demands.specs.Lives.Stepped.{JustNow, Stays, as-before, OwnMarks, marks-stay}
 use Rattle.demands.specs.Lives.Took.{Took, took}
 
 -- ---- after every call
@@ -142,7 +143,7 @@ tells-refused x n after h p =
       completed = refl;
       ready = refl;
       echoes = λ e. absurd (true≢false (sym e));
-      marks = record { dealt = ap (λ (v : Progress). v .dealt) p; commanded = ap (λ (v : Progress). v .commanded) p };
+      marks = marks-stay _ _ _ (ap (λ (v : Progress). v .dealt) p) (ap (λ (v : Progress). v .commanded) p) refl refl;
     }
 
 module _ (x : Record) (c : Call) (t : Tells x (doing x c .outcome)) where
@@ -167,9 +168,9 @@ module _ (x : Record) (c : Call) (t : Tells x (doing x c .outcome)) where
 
 -- ---- the commands
 
-answered-tells : (x : Record) (n : ℕ) (st : Step) (buffer : List ℕ) → Tells x (accepted st) → Tells x (answered n st x buffer .outcome)
+answered-tells : (x : Record) (n : ℕ) (st : Step) (buffer : List ℕ) → (n ≡ 0 → Tells x (accepted st)) → Tells x (answered n st x buffer .outcome)
 answered-tells x n st buffer a =
-    answered-either n st x buffer (λ (d : Done). Tells x (d .outcome)) (λ e. a) (λ z. tells-refused x n x (untouched-same x) refl)
+    answered-either n st x buffer (λ (d : Done). Tells x (d .outcome)) a (λ z. tells-refused x n x (untouched-same x) refl)
 
 -- what a command that is taken sends and changes
 progress-tells : (x : Record) (v : Progress) (what : Sent) (bytes : List ℕ) → v .completion ≡ x .progress .completion → isReady what ≡ false → isEcho what ≡ false
@@ -190,7 +191,10 @@ module _ (x : Record) (g : Good x) where
   unfolding doing deal dealStep checksNow shareNow
   turn-deals secret coins lent =
       let t = answered-tells x _ (dealStep x secret coins) (replicate lent 0)
-      (progress-tells x _ Send _ refl refl refl (record { dealt = refl; commanded = refl })) in
+      (λ e. progress-tells x _ Send _ refl refl refl (record {
+        dealt = record { now = refl; first = λ q. deal-passed x secret coins (length {A = ℕ} (replicate lent 0)) e .first };
+        commanded = record { now = refl; first = λ q. absurd (true≢false (sym q)) };
+      })) in
       record {
         turned = quiet-turned x (deals secret coins lent) t;
         good = let kept = deal-kept x secret coins (replicate lent 0) (facts-sound x (g .facts)) (g .shape) in good-of _ (kept .0) (kept .1);
@@ -201,7 +205,10 @@ module _ (x : Record) (g : Good x) where
   unfolding doing recover recoverStep checksNow shareNow
   turn-commanded lent =
       let t = answered-tells x _ (recoverStep x) (replicate lent 0)
-      (progress-tells x _ Recovery _ refl refl refl (record { dealt = refl; commanded = refl })) in
+      (λ e. progress-tells x _ Recovery _ refl refl refl (record {
+        dealt = record { now = refl; first = λ q. absurd (true≢false (sym q)) };
+        commanded = record { now = refl; first = λ q. recover-passed x (length {A = ℕ} (replicate lent 0)) e .first };
+      })) in
       record {
         turned = quiet-turned x (commanded lent) t;
         good = let kept = recover-kept x (replicate lent 0) (facts-sound x (g .facts)) (g .shape) in good-of _ (kept .0) (kept .1);

@@ -42,6 +42,7 @@ call-numbered x lent = refl
 pub record DealPassed (x : Record) (secret : ℕ) (coins : List ℕ) (lent : ℕ) : Type 0 where
   pub called : Called x lent
   pub dealer : eqb (x .setup .i) (x .setup .d) ≡ true
+  pub first : x .progress .dealt ≡ false
   pub keeps : coinsKeep (x .setup) secret coins ≡ true
 
 pub deal-passed : (x : Record) (secret : ℕ) (coins : List ℕ) (lent : ℕ) → firstOf (dealRows x secret coins lent) ≡ 0 → DealPassed x secret coins lent
@@ -51,12 +52,14 @@ deal-passed x secret coins lent e =
     record {
       called = called x lent (both-passed (callRows x lent) (ownDealRows x secret coins) refl e .0);
       dealer = not-false _ (or-false (not (eqb (x .setup .i) (x .setup .d))) _ (row-of 13) .0);
+      first = or-false (not (eqb (x .setup .i) (x .setup .d))) _ (row-of 13) .1;
       keeps = not-false _ (row-of 14);
     }
 
 pub record RecoverPassed (x : Record) (lent : ℕ) : Type 0 where
   pub called : Called x lent
   pub completed : isDone (x .progress .completion) ≡ true
+  pub first : x .progress .commanded ≡ false
 
 pub recover-passed : (x : Record) (lent : ℕ) → firstOf (recoverRows x lent) ≡ 0 → RecoverPassed x lent
 unfolding recoverRows callRows ownRecoverRows row lacks
@@ -65,6 +68,7 @@ recover-passed x lent e =
     record {
       called = called x lent (both-passed (callRows x lent) (ownRecoverRows x) refl e .0);
       completed = not-false _ (or-false (not (isDone (x .progress .completion))) _ (row-of 13) .0);
+      first = or-false (not (isDone (x .progress .completion))) _ (row-of 13) .1;
     }
 
 -- ---- delivery
