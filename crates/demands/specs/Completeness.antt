@@ -1,24 +1,21 @@
 -- Completeness: what boxes that keep the rules send passes the checks of those that keep them, so a checker that accepts
 -- nothing does not meet demand 2; and shares from honest points are the dealt ones.
 --
--- In the modules below: what a message needs to be accepted (`Acceptance`); what stands behind what a box sends (`Origins`).
+-- In the module below: what a message needs to be accepted (`Acceptance`).
 -- Here, in order: the points behind a ready; the messages of a box are accepted; the share of a box whose points were dealt.
 -- Assumes nothing.
 pub mod Acceptance
-pub mod Origins
 use mathlib.Core.Path.{_≡_, refl, sym, ap, _∙_, subst}
 use mathlib.Core.Bool.{true, false}
 use mathlib.Core.List.{List, [], _∷_}
 use Prim.Native.Nat.{ℕ, _+_, _-_, _<_, _≤_}
 use native.Mathlib.Omega.{arith}
 use lib.ListN.{take}
-use Rattle.folds.specs.Tests.{and-intro, true≢false}
+use Rattle.folds.specs.Tests.{and-intro}
 use Rattle.rules.specs.declared.Completion.{Completion}
 use Rattle.rules.specs.declared.Completion.the-variants.{With}
 use Rattle.rules.specs.declared.Element.{Element}
-use Rattle.rules.specs.declared.Kept.{Kept}
 use Rattle.rules.specs.declared.Kept.the-variants.{Absent, There}
-use Rattle.rules.specs.declared.Pair.{Pair}
 use Rattle.rules.specs.declared.Record.{Record}
 use Rattle.rules.specs.declared.Sent.{Sent}
 use Rattle.rules.specs.declared.Sent.the-variants.{Send, Echo, Ready, Recovery}
@@ -29,7 +26,7 @@ use Rattle.rules.specs.Matrices.{zeroFour}
 use Rattle.rules.specs.Messages.{Message, recovery, matrixIn, polynomialsIn, tagOf, bytesOf, toEach}
 use Rattle.rules.specs.Dealing.{coinsKeep, matrixPasses, pairBelow, pointCheck, shareCheck}
 use Rattle.rules.specs.Record.{slotAt, heardFor, matrixOf, isThere, isDone, keptBelow, sameMatrix}
-use Rattle.rules.specs.Steps.{points, ownSlot, completedShare, shareBytes}
+use Rattle.rules.specs.Steps.{points, completedShare, shareBytes}
 use Rattle.rules.specs.Answers.{setUp, exponentsKeep, checks}
 use Rattle.rules.specs.Laws.Numbers.{bounds, box-is}
 use Rattle.rules.specs.Laws.Agreement.{share-agree}
@@ -38,12 +35,12 @@ use Rattle.rules.specs.Laws.Ranges.{four-room, pair-room, read-room, slot-room,
 use Rattle.demands.specs.Histories.{Call, gets, doing, after, wrote, messageTo, own}
 use Rattle.demands.specs.MessageTo.{message-to}
 use Rattle.demands.specs.Sharing.{group, order, size, Different, dealtPoint, dealtShare, send-passes, echo-passes, ready-passes, points-give}
-use Rattle.demands.specs.Lives.{keptFor, readiesSent, life-sound, kept-then, kept-passes, completed-kept}
+use Rattle.demands.specs.Lives.{keptFor, lowestFor, readiesSent, life-sound, kept-then, kept-passes, completed-kept}
 use Rattle.demands.specs.Lives.Slots.{slot-used, there-some}
 use Rattle.demands.specs.Lives.Born.{good, own-setup, numbers-keep, facts-at}
 use Rattle.demands.specs.Lives.Readies.{used-there, held-differ}
+use Rattle.demands.specs.Lives.Origins.{Spoken, spoken}
 use Acceptance.{Welcome, welcomed}
-use Origins.{Spoken, spoken}
 use Rattle.demands.specs.Own.{own-bytes}
 
 -- ---- the points behind a ready
@@ -190,7 +187,7 @@ module _ (u : SetUp) (i j : ℕ) (taken : setUp (own u i) .answer .no ≡ 0) (ta
       let check : shareCheck (group u) (u .k) (matrixOf (slotAt addressee s′)) i p ≡ true
       = sym (share-agree (group u) (u .k) _ _ agree (omega arith) i p) ∙ kept-passes (own u i) taken cs s p (w .0) (some .1) in
       arrives (λ m. recovery p) 4 (λ m. refl)
-      (said-by Recovery e
+      (said-by Recovery e .0
       ∙ ap (λ (v : Completion). shareBytes (own u i) (completedShare sender v)) done
       ∙ ap (shareBytes (own u i)) (some .1))
       (record {
@@ -211,7 +208,7 @@ module _ (u : SetUp) (i j : ℕ) (taken : setUp (own u i) .answer .no ≡ 0) (ta
 pub dealt-share-kept : (u : SetUp) → setUp u .answer .no ≡ 0 → (cs : List Call) (c : Call) (C : List (List Element))
     → readiesSent u (c ∷ cs) C ≡ readiesSent u cs C + 1
     → (secret : ℕ) (coins : List ℕ) → coinsKeep u secret coins ≡ true
-    → Different u zeroFour (take (u .k) (points (slotAt (after u (c ∷ cs)) (ownSlot (after u (c ∷ cs)) C) .places))) (λ m f. f ≡ dealtPoint u secret coins m (u .i))
+    → Different u zeroFour (lowestFor u (after u (c ∷ cs)) C) (λ m f. f ≡ dealtPoint u secret coins m (u .i))
     → keptFor (after u (c ∷ cs)) C ≡ There (dealtShare u secret coins (u .i))
 dealt-share-kept u taken cs c C now secret coins keeps dealt =
     kept-then u taken cs c C now ∙ ap There (points-give u (numbers-keep u taken) secret coins keeps (u .i) _ dealt .1)

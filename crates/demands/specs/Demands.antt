@@ -25,14 +25,14 @@ use Rattle.rules.specs.Matrices.{entry, zeroFour}
 use Rattle.rules.specs.Messages.{echo, tagIn, matrixIn, polynomialsIn, toEach}
 use Rattle.rules.specs.Dealing.{coinsKeep, committed, matrixPasses, shareCheck}
 use Rattle.rules.specs.Record.{slotAt, placeAt, shareAt, isThere, matrixOf, sound, sameMatrix, heardFor}
-use Rattle.rules.specs.Steps.{Said, points, sharePoints, pairFrom, echoFour, recoveredFrom, ownSlot}
+use Rattle.rules.specs.Steps.{Said, sharePoints, pairFrom, echoFour, recoveredFrom}
 use Rattle.rules.specs.Answers.{noPair, setUp}
 use Rattle.rules.specs.Sheet.{boxLines, secretLine, printed}
 use Rattle.rules.specs.Laws.Shape.{Shaped}
 use Rattle.demands.specs.Histories.{Call, gets, Class, Event, doing, after, answers, wrote, own}
 use Rattle.demands.specs.Sharing.{group, order, Sound, Different, dealtPoint, dealtShare}
 use Rattle.demands.specs.Sharing as Sharing
-use Rattle.demands.specs.Lives.{checked, said, shareSaid, eOf, rOf, keptFor, readiesSent, howMany, isEcho}
+use Rattle.demands.specs.Lives.{checked, said, shareSaid, eOf, rOf, keptFor, lowestFor, readiesSent, howMany, isEcho}
 use Rattle.demands.specs.Lives as Lives
 use Rattle.demands.specs.Completeness.{answered}
 use Rattle.demands.specs.Completeness as Completeness
@@ -97,7 +97,7 @@ module _ (u : SetUp) (i j : ℕ) (taken : setUp (own u i) .answer .no ≡ 0) (ta
 pub honest-points-give-the-dealt-share : (u : SetUp) → setUp u .answer .no ≡ 0 → (cs : List Call) (c : Call) (C : List (List Element))
     → readiesSent u (c ∷ cs) C ≡ readiesSent u cs C + 1
     → (secret : ℕ) (coins : List ℕ) → coinsKeep u secret coins ≡ true
-    → Different u zeroFour (take (u .k) (points (slotAt (after u (c ∷ cs)) (ownSlot (after u (c ∷ cs)) C) .places)))
+    → Different u zeroFour (lowestFor u (after u (c ∷ cs)) C)
     (λ m f. f ≡ dealtPoint u secret coins m (u .i))
     → keptFor (after u (c ∷ cs)) C ≡ There (dealtShare u secret coins (u .i))
 honest-points-give-the-dealt-share = Completeness.dealt-share-kept
@@ -141,7 +141,7 @@ module _ (u : SetUp) (taken : setUp u .answer .no ≡ 0) (cs : List Call) where
   -- it is that of the k lowest points then held,
   pub pair-of-that-moment : (c : Call) (C : List (List Element)) → readiesSent u (c ∷ cs) C ≡ readiesSent u cs C + 1
       → keptFor (after u (c ∷ cs)) C
-      ≡ There (pairFrom (order u) (take (u .k) (points (slotAt (after u (c ∷ cs)) (ownSlot (after u (c ∷ cs)) C) .places))))
+      ≡ There (pairFrom (order u) (lowestFor u (after u (c ∷ cs)) C))
   pair-of-that-moment = Lives.kept-then u taken cs
 
   -- "and never changes"

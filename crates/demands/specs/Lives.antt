@@ -19,6 +19,8 @@ pub mod Readies
 pub mod Once
 pub mod Completed
 pub mod Commands
+pub mod Origins
+pub mod Sent
 pub mod Recovered
 use mathlib.Core.Path.{_≡_, refl, sym, ap, _∙_, subst}
 use mathlib.Core.Bool.{true, false}
@@ -43,7 +45,7 @@ use Rattle.rules.specs.Matrices.{entry}
 use Rattle.rules.specs.Messages.{echo, tagIn, matrixIn, polynomialsIn, toEach}
 use Rattle.rules.specs.Dealing.{committed, pointCheck, shareCheck}
 use Rattle.rules.specs.Record.{slotAt, placeAt, shareAt, isHeld, isThere, isDone, held, matrixOf, sound}
-use Rattle.rules.specs.Steps.{points, sharePoints, pairFrom, echoFour, recoveredFrom, ownSlot}
+use Rattle.rules.specs.Steps.{points, sharePoints, pairFrom, echoFour, recoveredFrom}
 use Rattle.rules.specs.Answers.{setUp}
 use Rattle.rules.specs.Laws.Shape.{Shaped}
 use Rattle.rules.specs.Laws.Sound.{facts-sound}
@@ -108,7 +110,7 @@ module _ (u : SetUp) (taken : setUp u .answer .no ≡ 0) (cs : List Call) where
   -- it is the interpolation, at that moment, of the k lowest points held
   pub kept-then : (c : Call) (C : List (List Element)) → readiesSent u (c ∷ cs) C ≡ readiesSent u cs C + 1
       → keptFor (after u (c ∷ cs)) C
-      ≡ There (pairFrom (order u) (take (u .k) (points (slotAt (after u (c ∷ cs)) (ownSlot (after u (c ∷ cs)) C) .places))))
+      ≡ There (pairFrom (order u) (lowestFor u (after u (c ∷ cs)) C))
   kept-then c C e =
       let now = kept-now u taken C c cs e in
       let here = slot-there (after u (c ∷ cs)) C (ap isThere now) in

@@ -1,11 +1,20 @@
--- A message goes by the numbers that the whole session shares, not by the number of the box that writes or reads it.
+-- What the bytes of a message go by: the numbers that the whole session shares, not the number of the box that writes or reads it;
+-- and the first k rows and columns of its matrix.
+--
+-- In order: one message; a message to each box.
 -- Assumes nothing.
-use mathlib.Core.Path.{_≡_, refl}
-use mathlib.Core.List.{List}
-use Prim.Native.Nat.{ℕ}
+use mathlib.Core.Path.{_≡_, refl, ap}
+use mathlib.Core.Bool.{true}
+use mathlib.Core.List.{List, _∷_, _++_}
+use Prim.Native.Nat.{ℕ, _+_}
+use Rattle.folds.specs.Runs.{gather-same}
+use Rattle.rules.specs.declared.Element.{Element}
+use Rattle.rules.specs.declared.Four.{Four}
 use Rattle.rules.specs.declared.SetUp.{SetUp}
-use Rattle.rules.specs.Messages.{Message, send, echo, ready, recovery, polynomialBytes, bodyOf, bytesOf, matrixIn, polynomialsIn, fourIn, messageIn}
+use Rattle.rules.specs.Messages.{Message, send, echo, ready, recovery, twoBytes, matrixBytes, polynomialBytes, fourBytes, tagOf, bodyOf, framed, bytesOf, toEach, matrixIn, polynomialsIn, fourIn, messageIn}
+use Rattle.rules.specs.Record.{sameMatrix}
 use Rattle.rules.specs.Answers.{exponentsKeep}
+use Rattle.rules.specs.Laws.Sound.{agree-at}
 use Rattle.demands.specs.Histories.{own}
 
 pub own-bytes : (u : SetUp) (i : ℕ) (m : Message) → bytesOf (own u i) m ≡ bytesOf u m
@@ -28,3 +37,24 @@ own-exponents u i (send C P) = refl
 own-exponents u i (echo C f) = refl
 own-exponents u i (ready C f) = refl
 own-exponents u i (recovery s) = refl
+
+-- ---- a message to each box
+
+pub own-each : (u : SetUp) (i : ℕ) (f : ℕ → Message) → toEach (own u i) f ≡ toEach u f
+unfolding toEach
+own-each u i f = gather-same _ _ (u .n) (λ j l. own-bytes u i (f (j + 1)))
+
+pub each-same : (u : SetUp) (f g : ℕ → Message) → ((j : ℕ) → bytesOf u (f j) ≡ bytesOf u (g j)) → toEach u f ≡ toEach u g
+unfolding toEach
+each-same u f g h = gather-same _ _ (u .n) (λ j l. h (j + 1))
+
+-- a matrix is written as one that agrees with it
+matrix-bytes : (k : ℕ) (C D : List (List Element)) → sameMatrix k C D ≡ true → matrixBytes k C ≡ matrixBytes k D
+unfolding matrixBytes
+matrix-bytes k C D e = gather-same _ _ k (λ j lj. gather-same _ _ k (λ l ll. ap twoBytes (agree-at k C D e j l lj ll)))
+
+pub ready-bytes : (u : SetUp) (C D : List (List Element)) (f : Four) → sameMatrix (u .k) C D ≡ true
+    → bytesOf u (ready C f) ≡ bytesOf u (ready D f)
+unfolding bytesOf bodyOf tagOf
+ready-bytes u C D f e =
+    ap (λ (r : List ℕ). framed 3 (u .d ∷ twoBytes (u .session) ++ (u .k ∷ r ++ fourBytes f))) (matrix-bytes (u .k) C D e)

@@ -18,6 +18,7 @@ pub mod Lengths
 pub mod RoundTrip
 pub mod Ranges
 pub mod Passed
+pub mod Heard
 pub mod New
 pub mod Room
 pub mod Kept

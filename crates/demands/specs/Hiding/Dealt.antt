@@ -28,9 +28,11 @@ use Rattle.rules.specs.Laws.Passed.{deal-passed}
 use Rattle.demands.specs.Histories.{own}
 use Rattle.demands.specs.Sharing.{dealtTo, send-passes}
 use Rattle.demands.specs.Matching.{z}
+use Rattle.demands.specs.Lives.Commands.{deal-sends}
 use Rattle.demands.specs.Hiding.Moves.{Twice, numbers, inSet, q, coins′, dealt, zed, shifted, shifted′, movedBy, movedPolynomials, movedRecord}
 use Rattle.demands.specs.Hiding.Hypotheses.{Given, sound-numbers, size, coins-keep′, same-matrix, dealt-moves}
-use Rattle.demands.specs.Hiding.Steps.{MovedStep, own-each, each-same}
+use Rattle.demands.specs.Hiding.Steps.{MovedStep}
+use Rattle.demands.specs.Own.{own-each, each-same}
 use Rattle.demands.specs.Hiding.Outcomes.{DoneAlike, answered-alike, row-alike, call-alike}
 use lib.ListN.{length}
 
@@ -81,9 +83,10 @@ module _ (t : Twice) (h : Given t) where
             tag = 1;
             one-tag = λ j. refl;
             proper = λ j. (e, refl, below j, dealt-fit (t .s) (t .coins) j);
-            first = rw own-setup (own-each (numbers t) i _);
-            second = rw own-setup (own-each (numbers t) i _ ∙ each-same (numbers t) _ _ (λ j.
-                ap₂ (λ C P. bytesOf (numbers t) (send C P)) (same-matrix t h) (polynomials-moved j)));
+            first = deal-sends x (t .s) (t .coins) .1 ∙ (rw own-setup (own-each (numbers t) i _));
+            second = deal-sends (movedRecord t i x) (t .s′) (coins′ t) .1
+                ∙ (rw own-setup (own-each (numbers t) i _ ∙ each-same (numbers t) _ _ (λ j.
+                ap₂ (λ C P. bytesOf (numbers t) (send C P)) (same-matrix t h) (polynomials-moved j))));
           });
         }
 

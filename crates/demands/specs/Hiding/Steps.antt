@@ -1,11 +1,11 @@
 -- The steps of a moved record are the moved steps.
 --
--- In order: two steps alike; parts of a moved record; the slot of a matrix, opened and taken into; what is sent; the steps of each message.
+-- In order: two steps alike; parts of a moved record; the slot of a matrix, opened and taken into; the steps of each message.
 -- Assumes nothing.
 use mathlib.Core.Path.{_≡_, refl, sym, ap, ap₂, _∙_, subst}
 use mathlib.Core.Bool.{true, false, not}
 use mathlib.Core.Logic.{_⊎_, inl, inr}
-use mathlib.Core.List.{List, [], _∷_, _++_, map}
+use mathlib.Core.List.{List, [], map}
 use Prim.Native.Nat.{ℕ, _+_, _*_}
 use native.Mathlib.Nat.{zero-add}
 use lib.Dec.{ltb}
@@ -13,7 +13,6 @@ use lib.ListN.{set, take}
 use Rattle.folds.specs.Tests.{_and_, pick, pick-two}
 use Rattle.folds.specs.Below.{firstFrom-same}
 use Rattle.folds.specs.Stores.{mapFrom, mapFrom-set, map-set}
-use Rattle.folds.specs.Runs.{gather-same}
 use Rattle.rules.specs.declared.Element.{Element}
 use Rattle.rules.specs.declared.Four.{Four}
 use Rattle.rules.specs.declared.Pair.{Pair}
@@ -22,16 +21,14 @@ use Rattle.rules.specs.declared.Point.{Point}
 use Rattle.rules.specs.declared.Point.the-variants.{Silent, Held}
 use Rattle.rules.specs.declared.Polynomials.{Polynomials}
 use Rattle.rules.specs.declared.Record.{Record}
-use Rattle.rules.specs.declared.SetUp.{SetUp}
 use Rattle.rules.specs.declared.Slot.{Slot}
 use Rattle.rules.specs.Matrices.{zeroFour}
-use Rattle.rules.specs.Messages.{Message, echo, ready, twoBytes, matrixBytes, fourBytes, tagOf, bodyOf, framed, bytesOf, toEach}
+use Rattle.rules.specs.Messages.{echo, ready, tagOf, bytesOf}
 use Rattle.rules.specs.Record.{slotAt, placeAt, matrixOf, countE, countR, sameMatrix, zeroSlot}
 use Rattle.rules.specs.Steps.{withSlots, Said, pairFrom, readyFour, echoFour, points, ownSlot, freeSlot, slotFor, opened, firstPoint, holding, keeping, Step, quiet, sendStep, withSlot, readySent, lowest, completing, completed, completionDue, pointAt, pointStep, taken, readyDue}
 use Rattle.rules.specs.Laws.Checks.{echo-below, ready-below}
 use Rattle.rules.specs.declared.Side.{Side}
 use Rattle.rules.specs.declared.Side.the-variants.{ByEcho, ByReady}
-use Rattle.rules.specs.Laws.Sound.{agree-at}
 use Rattle.rules.specs.Laws.Kept.OpenSlot.{fresh}
 use Rattle.demands.specs.Histories.{own}
 use Rattle.demands.specs.Sharing.{Different}
@@ -39,7 +36,7 @@ use Rattle.demands.specs.Hiding.Moves.{Twice, numbers, q, dealt, zed, mo
 use Rattle.demands.specs.Hiding.Hypotheses.{Given, q-some}
 use Rattle.demands.specs.Hiding.Values.{echo-moved, ready-moved, pair-moved}
 use Rattle.demands.specs.Hiding.SentTwice.{Twin}
-use Rattle.demands.specs.Own.{own-bytes}
+use Rattle.demands.specs.Own.{own-each, each-same, ready-bytes}
 
 -- ---- two steps alike
 
@@ -128,27 +125,6 @@ module _ (t : Twice) (i : ℕ) where
   keeping-moved : (slot : Slot) (p : Pair) → keeping (movedSlot t i slot) (movedPair t (zed t i * zed t 0) p) ≡ movedSlot t i (keeping slot p)
   unfolding keeping movedSlot
   keeping-moved slot p = refl
-
--- ---- what is sent
-
-pub own-each : (u : SetUp) (i : ℕ) (f : ℕ → Message) → toEach (own u i) f ≡ toEach u f
-unfolding toEach
-own-each u i f = gather-same _ _ (u .n) (λ j l. own-bytes u i (f (j + 1)))
-
-pub each-same : (u : SetUp) (f g : ℕ → Message) → ((j : ℕ) → bytesOf u (f j) ≡ bytesOf u (g j)) → toEach u f ≡ toEach u g
-unfolding toEach
-each-same u f g h = gather-same _ _ (u .n) (λ j l. h (j + 1))
-
--- a matrix is written as one that agrees with it
-matrix-bytes : (k : ℕ) (C D : List (List Element)) → sameMatrix k C D ≡ true → matrixBytes k C ≡ matrixBytes k D
-unfolding matrixBytes
-matrix-bytes k C D e = gather-same _ _ k (λ j lj. gather-same _ _ k (λ l ll. ap twoBytes (agree-at k C D e j l lj ll)))
-
-ready-bytes : (u : SetUp) (C D : List (List Element)) (f : Four) → sameMatrix (u .k) C D ≡ true
-    → bytesOf u (ready C f) ≡ bytesOf u (ready D f)
-unfolding bytesOf bodyOf tagOf
-ready-bytes u C D f e =
-    ap (λ (r : List ℕ). framed 3 (u .d ∷ twoBytes (u .session) ++ (u .k ∷ r ++ fourBytes f))) (matrix-bytes (u .k) C D e)
 
 -- what a slot has to have when ready is sent from it: points of k different boxes, for the dealt matrix
 abbrev pub Ripe : Twice → Slot → Type 0

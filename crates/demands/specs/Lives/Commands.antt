@@ -1,35 +1,39 @@
 -- A deal and a recovery command: when they are taken, and what they write.
 --
--- In order: the sends of a deal; a deal that is taken; a command that is taken; a box deals once.
+-- In order: the sends of a deal; a deal and a command that are taken; in a life, the first deal and the first command.
 -- Assumes nothing.
-use mathlib.Core.Path.{_≡_, refl, sym, ap, ap₂, _∙_}
-use mathlib.Core.Bool.{Bool, true, false, not}
-use mathlib.Core.List.{List, [], _∷_}
-use Prim.Native.Nat.{ℕ, _+_, _≤_}
+use mathlib.Core.Path.{_≡_, refl, sym, ap, _∙_}
+use mathlib.Core.Bool.{true, false, not}
+use mathlib.Core.List.{List}
+use Prim.Native.Nat.{ℕ, _≤_}
 use native.Mathlib.Omega.{arith}
-use lib.Dec.{eqb, ltb}
+use lib.Dec.{ltb}
 use lib.ListN.{length, length-replicate, replicate}
 use borrow.Author.Tests.{le-ltb, eq-eqb}
-use Rattle.folds.specs.Tests.{_and_, _or_, pick, and-intro, or-none}
+use Rattle.folds.specs.Tests.{and-intro, or-none}
 use Rattle.rules.specs.declared.Answer.{Answer}
+use Rattle.rules.specs.declared.Completion.{Completion}
+use Rattle.rules.specs.declared.Completion.the-variants.{With}
 use Rattle.rules.specs.declared.Pair.{Pair}
 use Rattle.rules.specs.declared.Kept.the-variants.{There}
 use Rattle.rules.specs.declared.Record.{Record}
 use Rattle.rules.specs.declared.Sent.{Sent}
 use Rattle.rules.specs.declared.Sent.the-variants.{Send, Recovery}
 use Rattle.rules.specs.declared.SetUp.{SetUp}
-use Rattle.rules.specs.Messages.{send, recovery, toEach, written}
+use Rattle.rules.specs.Messages.{send, recovery, toEach}
 use Rattle.rules.specs.Dealing.{coinsKeep}
-use Rattle.rules.specs.Record.{isDone, sound}
+use Rattle.rules.specs.Record.{slotAt, isDone, sound}
 use Rattle.rules.specs.Steps.{Step, dealStep, recoverStep, completedShare, shareBytes}
 use Rattle.rules.specs.Answers.{Done, done, accepted, answered, firstOf, callRows, ownDealRows, dealRows, deal, ownRecoverRows, recoverRows, recover, setUp}
 use Rattle.rules.specs.Laws.Table.{none}
+use Rattle.rules.specs.Laws.Sound.{facts-sound}
 use Rattle.rules.specs.Laws.DemandOne.{deal-number, recover-number, outcome-number, answered-accepted}
 use Rattle.rules.specs.Laws.Lengths.{take-written}
 use Rattle.demands.specs.Histories.{Call, deals, commanded, doing, after, answers, wrote}
 use Rattle.demands.specs.Sharing.{dealtMatrix, dealtTo}
-use Rattle.demands.specs.Lives.Terms.{isSend, howMany}
-use Rattle.demands.specs.Lives.Born.{good, own-setup, turn-at}
+use Rattle.demands.specs.Lives.Terms.{isSend, isRecovery, howMany}
+use Rattle.demands.specs.Lives.Born.{good, own-setup}
+use Rattle.demands.specs.Lives.Once.{dealt-counts, commanded-counts}
 
 -- ---- the sends of a deal
 
@@ -37,18 +41,12 @@ use Rattle.demands.specs.Lives.Born.{good, own-setup, turn-at}
 abbrev pub sendsOf : SetUp → ℕ → List ℕ → List ℕ
 sendsOf u secret coins = toEach u (λ j. send (dealtMatrix u secret coins) (dealtTo u secret coins j))
 
-pub deal-sends : (x : Record) (secret : ℕ) (coins : List ℕ) → dealStep x secret coins .bytes ≡ sendsOf (x .setup) secret coins
+pub deal-sends : (x : Record) (secret : ℕ) (coins : List ℕ)
+    → (dealStep x secret coins .sent ≡ Send) × (dealStep x secret coins .bytes ≡ sendsOf (x .setup) secret coins)
 unfolding dealStep
-deal-sends x secret coins = refl
+deal-sends x secret coins = (refl, refl)
 
 -- ---- taken
-
--- what an accepted call has sent and written
-accepted-wrote : (n : ℕ) (st : Step) (after : Record) (buffer : List ℕ) → n ≡ 0
-    → (answered n st after buffer .outcome .answer .sent ≡ st .sent) × (wrote (answered n st after buffer) ≡ st .bytes)
-unfolding accepted
-accepted-wrote n st after buffer e =
-    rw (answered-accepted n st after buffer e) (refl, take-written (st .bytes) buffer)
 
 module _ (x : Record) (is-sound : sound x ≡ true) (lent : ℕ) (long : 2048 ≤ lent) where
   abbrev size : ℕ
@@ -78,3 +76,48 @@ module _ (x : Record) (is-sound : sound x ≡ true) (lent : ℕ) (long : 2048 �
       (and-intro _ _ room
       (and-intro _ _ (ap (λ b. not (not b)) is-sound)
       (and-intro _ _ (ap not (or-none _ _ (ap not complete) first)) refl)))
+
+-- ---- in a life
+
+-- a call is accepted, and has sent this and written these bytes
+pub record Writes (d : Done) (what : Sent) (bytes : List ℕ) : Type 0 where
+  pub no : d .outcome .answer .no ≡ 0
+  pub sent : d .outcome .answer .sent ≡ what
+  pub wrote : wrote d ≡ bytes
+
+writes : (n : ℕ) (st : Step) (after : Record) (buffer : List ℕ) (what : Sent) (bytes : List ℕ) → n ≡ 0 → st .sent ≡ what → st .bytes ≡ bytes
+    → Writes (answered n st after buffer) what bytes
+unfolding accepted
+writes n st after buffer what bytes e same-sent same-bytes =
+    rw (answered-accepted n st after buffer e)
+    (record { no = refl; sent = same-sent; wrote = take-written (st .bytes) buffer ∙ same-bytes })
+
+module _ (u : SetUp) (set-up : setUp u .answer .no ≡ 0) (cs : List Call) (lent : ℕ) (long : 2048 ≤ lent) where
+  abbrev x : Record
+  x = after u cs
+
+  all-sound : sound x ≡ true
+  all-sound = facts-sound x (good u set-up cs .facts)
+
+  own : x .setup ≡ u
+  own = own-setup u set-up cs
+
+  pub first-deal : u .i ≡ u .d → howMany (λ (a : Answer). isSend (a .sent)) (answers u cs) ≡ 0
+      → (secret : ℕ) (coins : List ℕ) → coinsKeep u secret coins ≡ true
+      → Writes (doing x (deals secret coins lent)) Send (sendsOf u secret coins)
+  unfolding doing deal
+  first-deal dealer undealt secret coins keep =
+      let n = deal-taken x all-sound lent long secret coins (rw own dealer) (dealt-counts u set-up cs ∙ ap (ltb 0) undealt) (rw own keep) in
+      let sends = deal-sends x secret coins in
+      writes _ (dealStep x secret coins) x (replicate lent 0) Send _ n (sends .0) (sends .1 ∙ ap (λ (v : SetUp). sendsOf v secret coins) own)
+
+  pub first-command : (s : ℕ) (p : Pair) → x .progress .completion ≡ With s → slotAt x s .pair .kept ≡ There p
+      → howMany (λ (a : Answer). isRecovery (a .sent)) (answers u cs) ≡ 0
+      → Writes (doing x (commanded lent)) Recovery (toEach u (λ j. recovery p))
+  unfolding doing recover recoverStep
+  first-command s p done kept uncommanded =
+      let n = command-taken x all-sound lent long (ap isDone done) (commanded-counts u set-up cs ∙ ap (ltb 0) uncommanded) in
+      writes _ (recoverStep x) x (replicate lent 0) Recovery _ n refl
+      (ap (λ (c : Completion). shareBytes (x .setup) (completedShare x c)) done
+      ∙ ap (shareBytes (x .setup)) kept
+      ∙ ap (λ (v : SetUp). toEach v (λ j. recovery p)) own)

@@ -80,14 +80,16 @@ module _ (x : Record) (g : Good x) (C : List (List Element)) (s : ℕ) (found : 
         (ap (λ (u : SetUp). sameMatrix (u .k) (matrixOf new) D) (sym setup) ∙ h)
 
     -- The slot of the matrix is the new one.
-    pub slot-own : (D : List (List Element)) → sameMatrix (x .setup .k) C D ≡ true → slotOf y D ≡ new
-    slot-own D h =
-        slot-has y gy D s (record {
+    pub new-has : (D : List (List Element)) → sameMatrix (x .setup .k) C D ≡ true → Has y D s
+    new-has D h =
+        record {
           within = found .within;
           used = ap (λ (v : Slot). v .used) here ∙ used;
           agrees = ap (λ (v : Slot). sameMatrix (y .setup .k) (matrixOf v) D) here ∙ new-agrees D h;
-        })
-        ∙ here
+        }
+
+    pub slot-own : (D : List (List Element)) → sameMatrix (x .setup .k) C D ≡ true → slotOf y D ≡ new
+    slot-own D h = slot-has y gy D s (new-has D h) ∙ here
 
     has-moves : (D : List (List Element)) (r : ℕ) → (r ≡ s → ⊥) → Has x D r → Has y D r
     has-moves D r n h = record { within = h .within; used = rw (elsewhere r n) (h .used); agrees = rw (elsewhere r n, setup) (h .agrees) }

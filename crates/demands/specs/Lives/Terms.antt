@@ -2,10 +2,11 @@
 --
 -- In that order.
 -- Assumes nothing.
-use mathlib.Core.Bool.{Bool, true, false}
+use mathlib.Core.Bool.{Bool, false}
 use mathlib.Core.List.{List, [], _∷_}
 use Prim.Native.Nat.{ℕ, _+_}
 use lib.Dec.{eqb, ltb}
+use lib.ListN.{take}
 use Rattle.folds.specs.Tests.{_and_, _or_, pick}
 use Rattle.rules.specs.declared.Element.{Element}
 use Rattle.rules.specs.declared.Four.{Four}
@@ -20,7 +21,7 @@ use Rattle.rules.specs.declared.Sent.the-variants.{Nothing, Send, Echo, Ready, 
 use Rattle.rules.specs.declared.SetUp.{SetUp}
 use Rattle.rules.specs.Messages.{tagIn, matrixIn, fourIn, pairIn}
 use Rattle.rules.specs.Record.{slotAt, sameMatrix, countE, countR}
-use Rattle.rules.specs.Steps.{ownSlot, firstPoint}
+use Rattle.rules.specs.Steps.{Said, points, ownSlot, firstPoint}
 use Rattle.demands.specs.Histories.{Call, deals, gets, commanded, doing, after}
 
 -- ---- what has been checked
@@ -90,6 +91,10 @@ rOf x C = pick (ltb (ownSlot x C) 20) (countR (slotAt x (ownSlot x C))) 0
 -- the pair kept for a matrix
 unfoldable pub keptFor : Record → List (List Element) → Kept
 keptFor x C = pick (ltb (ownSlot x C) 20) (slotAt x (ownSlot x C) .pair .kept) Absent
+
+-- the k lowest points held for a matrix
+abbrev pub lowestFor : SetUp → Record → List (List Element) → List (Said Four)
+lowestFor u x C = take (u .k) (points (slotAt x (ownSlot x C) .places))
 
 -- ---- what a box has sent
 

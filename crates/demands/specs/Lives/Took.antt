@@ -30,8 +30,8 @@ use Rattle.rules.specs.Laws.Facts.{marksOf, ear}
 use Rattle.rules.specs.Laws.Room.{Found}
 use Rattle.rules.specs.Laws.Kept.TakenSlot.{mark-own, mark-other, place-own, place-other}
 use Rattle.rules.specs.Laws.Kept.Changes.{Good}
-use Rattle.demands.specs.Lives.Slots.{slotOf, slot-agree}
-use Rattle.demands.specs.Lives.Replaced.{dressed, open-as, slot-own, slot-other, slot-stays}
+use Rattle.demands.specs.Lives.Slots.{Has, slotOf, slot-agree}
+use Rattle.demands.specs.Lives.Replaced.{dressed, open-as, new-has, slot-own, slot-other, slot-stays}
 use Rattle.demands.specs.Lives.Stepped.{stepOf, paired, stepped}
 
 -- ---- what is read of it
@@ -76,6 +76,8 @@ pub record Took (x y : Record) (b : Side) (m : ℕ) (C : List (List Element)) (f
   pub own : (D : List (List Element)) → sameMatrix (x .setup .k) C D ≡ true → SlotTook (x .setup) b m f sends (slotOf x D) (slotOf y D)
   pub other : (D : List (List Element)) → sameMatrix (x .setup .k) C D ≡ false → slotOf y D ≡ slotOf x D
   pub stays : (r : ℕ) → slotAt x r .used ≡ true → (slotAt y r .used ≡ true) × (matrixOf (slotAt y r) ≡ matrixOf (slotAt x r))
+  -- the slot that it is taken into
+  pub has : (D : List (List Element)) → sameMatrix (x .setup .k) C D ≡ true → Has y D (slotFor x C)
   -- where no ready is sent, the box completes if that is due
   pub completes : (D : List (List Element)) → sameMatrix (x .setup .k) C D ≡ true → sends ≡ false
       → completionDue (x .setup) b (taken b (slotOf x D) m f) ≡ true → isDone (y .progress .completion) ≡ true
@@ -166,6 +168,7 @@ module _ (b : Side) (x : Record) (g : Good x) (m : ℕ) (C : List (List Element)
         });
         other = slot-other x g C s found y gy new (st .slots) (st .setup) used same;
         stays = slot-stays x g C s found y gy new (st .slots) (st .setup) used same;
+        has = new-has x g C s found y gy new (st .slots) (st .setup) used same;
         completes = λ D h none due.
             st .completes none (it-completes x b m f o w e ∙ ap (λ (v : Slot). completionDue (x .setup) b (taken b v m f)) (sym (slot-agree x C D h)) ∙ due);
       }

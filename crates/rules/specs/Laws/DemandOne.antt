@@ -1,30 +1,26 @@
 -- Demand 1: every call gets a numbered answer; a refused call writes nothing, and changes the record only by the "heard" mark.
 --
 -- In order: (a) and (c), which number each call gives; an answer by its number; (b), what a refusal leaves; and that two outcomes
--- which a call's promise allows are equal.
+-- which a call's promise allows are equal. Who is heard after a delivery, mark by mark, stands in `Heard`.
 -- Assumes nothing.
 use mathlib.Core.Path.{_≡_, refl, sym, ap, _∙_, subst}
 use mathlib.Core.Bool.{Bool, true, false}
 use mathlib.Core.List.{List, [], _∷_}
 use mathlib.Core.Logic.{_↔_, _≢_, ⊎-elim}
-use Prim.Native.Nat.{ℕ, _-_, _≤_, _<_}
-use native.Mathlib.Omega.{arith}
+use Prim.Native.Nat.{ℕ, _-_, _≤_}
 use lib.Dec.{eqb, leb}
 use native.Mathlib.Decide.{ℕ-discrete}
-use lib.ListN.{length, getD, set}
-use lib.Seq.{getD-set-same, getD-set-other}
+use lib.ListN.{length}
 use borrow.Author.Tests.{eqb-true, ne-eqb, le-leb, leb-true, eq-eqb}
 use Rattle.folds.specs.Tests.{_and_, pick, pick-true, pick-false, and-left, and-right, and-intro, decide, true≢false}
-use Rattle.rules.specs.declared.Marks.{Marks}
 use Rattle.rules.specs.declared.Record.{Record}
 use Rattle.rules.specs.declared.SetUp.{SetUp}
 use Rattle.rules.specs.declared.Sent.the-variants.{Nothing}
 use Rattle.rules.specs.declared.Answer.{Answer}
 use Rattle.rules.specs.declared.Outcome.{Outcome}
 use Rattle.rules.specs.Messages.{tagIn, hasMatrix, written}
-use Rattle.rules.specs.Record.{noMarks, marked, heardFor, zeroRecord}
-use Rattle.rules.specs.Steps.{Step, mark, heard}
-use Rattle.rules.specs.Laws.Shape.{Shaped}
+use Rattle.rules.specs.Record.{zeroRecord}
+use Rattle.rules.specs.Steps.{Step, heard}
 use Rattle.rules.specs.Answers.{Refusal, firstRow, firstOf, Done, done, noPair, accepted, refused, outcomeOf, answered, setUpRows, setUp, SetsUp, callRows, ownDealRows, dealRows, deal, Deals, ownRecoverRows, recoverRows, recover, Recovers, formRows, turnRows, hearingTests, hearingRows, earlyRows, deliverRows, refusalHeard, deliver, Delivers, DeliversLent}
 use Rattle.rules.specs.Laws.Table.{row, noneBefore, none, lacks, distinct, numbers, first-row, first-none, marksBy, first-marks, each, marking-by, among}
 
@@ -150,14 +146,14 @@ atHearing = 8 ∷ 9 ∷ 10 ∷ []
 abbrev pub Heard : ℕ → ℕ → Type 0
 Heard n tag = (among atHearing n ≡ true) × (tag ≤ 3)
 
-abbrev toHear : ℕ → ℕ → Bool
+abbrev pub toHear : ℕ → ℕ → Bool
 toHear n tag = among atHearing n and hasMatrix tag
 
-heard-test : (n tag : ℕ) → Heard n tag → toHear n tag ≡ true
+pub heard-test : (n tag : ℕ) → Heard n tag → toHear n tag ≡ true
 unfolding hasMatrix
 heard-test n tag h = and-intro _ _ (h .0) (le-leb tag 3 (h .1))
 
-test-heard : (n tag : ℕ) → toHear n tag ≡ true → Heard n tag
+pub test-heard : (n tag : ℕ) → toHear n tag ≡ true → Heard n tag
 unfolding hasMatrix
 test-heard n tag t = (and-left _ (leb tag 3) t, leb-true tag 3 (and-right (among atHearing n) (leb tag 3) t))
 
@@ -205,45 +201,6 @@ deliver-heard x sender bytes buffer h =
   where
     nonzero : {n : ℕ} → among atHearing n ≡ true → n ≡ 0 → ⊥
     nonzero h z = true≢false (sym (rw z at h))
-
--- a record is as it came but for one sender's mark for one tag
-pub record OneMark (x y : Record) (tag m : ℕ) : Type 0 where
-  pub setup : y .setup ≡ x .setup
-  pub slots : y .slots ≡ x .slots
-  pub progress : y .progress ≡ x .progress
-  pub shares : y .shares ≡ x .shares
-  pub recovered : y .recovered ≡ x .recovered
-  pub there : heardFor y tag m ≡ true
-  pub elsewhere : (tag′ m′ : ℕ) → 1 ≤ tag′ → (tag′ ≡ tag → m′ ≡ m → ⊥) → heardFor y tag′ m′ ≡ heardFor x tag′ m′
-
--- what `heard` changes is one mark
-pub one-mark : (x : Record) (tag m : ℕ) → Shaped x → 1 ≤ tag → tag ≤ 4 → m < 10 → OneMark x (heard x tag m) tag m
-unfolding heard
-one-mark x tag m S l h b =
-    record {
-      setup = refl;
-      slots = refl;
-      progress = refl;
-      shares = refl;
-      recovered = refl;
-      there = rw (getD-set-same (x .heard) (tag - 1) (mark row m) noMarks in-heard) (getD-set-same (row .at) m true false in-row);
-      elsewhere = λ tag′ m′ l′ ne. other tag′ m′ ne (ℕ-discrete (tag′ - 1) (tag - 1)) (λ e. omega arith);
-    }
-  where
-    row : Marks
-    row = getD (x .heard) (tag - 1) noMarks
-
-    in-heard : tag - 1 < length (x .heard)
-    in-heard = rw (S .heard) (omega arith)
-
-    in-row : m < length (row .at)
-    in-row = rw (S .marks (tag - 1) (omega arith)) b
-
-    other : (tag′ m′ : ℕ) → (tag′ ≡ tag → m′ ≡ m → ⊥) → Dec (tag′ - 1 ≡ tag - 1) → (tag′ - 1 ≡ tag - 1 → tag′ ≡ tag)
-        → marked (getD (set (x .heard) (tag - 1) (mark row m)) (tag′ - 1) noMarks) m′ ≡ heardFor x tag′ m′
-    other tag′ m′ ne (yes e) up =
-        rw (e, getD-set-same (x .heard) (tag - 1) (mark row m) noMarks in-heard) (getD-set-other (row .at) m m′ true false (ne (up e)))
-    other tag′ m′ ne (no e) up = rw (getD-set-other (x .heard) (tag - 1) (tag′ - 1) (mark row m) noMarks e)
 
 -- ---- two outcomes that a call's promise allows are equal
 

@@ -20,9 +20,9 @@ use Rattle.rules.specs.declared.Sent.{Sent}
 use Rattle.rules.specs.declared.Sent.the-variants.{Nothing, Send, Echo, Ready, Recovery}
 use Rattle.rules.specs.declared.SetUp.{SetUp}
 use Rattle.rules.specs.declared.Slot.{Slot}
-use Rattle.rules.specs.Messages.{Message, send, echo, ready, matrixIn, polynomialsIn, pairIn, messageIn, toEach}
+use Rattle.rules.specs.Messages.{Message, echo, ready, tagIn, matrixIn, polynomialsIn, pairIn, messageIn, toEach}
 use Rattle.rules.specs.Dealing.{coinsKeep, matrixPasses, polynomialCheck}
-use Rattle.rules.specs.Record.{slotAt, matrixOf, isThere, sharesKept}
+use Rattle.rules.specs.Record.{slotAt, matrixOf, isDone, isThere, sharesKept}
 use Rattle.rules.specs.Steps.{Step, heard, points, readyFour, echoFour, ownSlot, freeSlot, slotFor, opened, keeping, sendStep, readySent, completed, sharing, recovering, shareStep, messageStep, dealStep, completedShare, shareBytes, recoverStep, completionDue, pointAt, pointStep, taken, readyDue}
 use Rattle.rules.specs.Answers.{accepted, refused, answered, firstOf, dealRows, deal, recover, refusalHeard, deliver, Done, firstRow, deliverRows}
 use Rattle.rules.specs.Laws.DemandOne.{answered-either}
@@ -32,14 +32,17 @@ use Rattle.rules.specs.Laws.Sound.{facts-sound}
 use Rattle.rules.specs.Laws.Lengths.{take-written}
 use Rattle.rules.specs.Laws.RoundTrip.{is-send, is-echo, is-ready, is-recovery, by-tag}
 use Rattle.rules.specs.Laws.Room.{Found, room}
-use Rattle.rules.specs.Laws.Passed.{Passed, deal-passed}
+use Rattle.rules.specs.Laws.Agreement.{agree-self}
+use Rattle.rules.specs.Laws.Passed.{Passed, deal-passed, recover-passed}
 use Rattle.rules.specs.Laws.Kept.Changes.{Good}
 use Rattle.demands.specs.Histories.{Call, deals, gets, commanded, doing, wrote}
-use Rattle.demands.specs.Sharing.{group, order, dealtMatrix, dealtTo}
+use Rattle.demands.specs.Sharing.{group, order}
+use Rattle.demands.specs.Lives.Commands.{sendsOf, deal-sends}
 use Rattle.demands.specs.Lives.Stepped.{stepOf, paired}
-use Rattle.demands.specs.Lives.Took.{slot-sent}
+use Rattle.demands.specs.Lives.Slots.{Has}
+use Rattle.demands.specs.Lives.Took.{took, slot-sent}
 use Rattle.demands.specs.Lives.Turns.{next}
-use Rattle.demands.specs.Lives.Deliveries.{number, has-passed, out-message}
+use Rattle.demands.specs.Lives.Deliveries.{turn, number, has-passed, out-message}
 
 -- ---- what stands behind the bytes of a call
 
@@ -48,20 +51,29 @@ abbrev pub readyOf : SetUp → Slot → ℕ → Message
 readyOf u slot j = ready (matrixOf slot) (readyFour (order u) (take (u .k) (points (slot .places))) j)
 
 abbrev pub Spoken : SetUp → Record → Call → Sent → List ℕ → Type 0
-Spoken u x c Nothing run = Unit {0}
+Spoken u x c Nothing run = run ≡ []
 Spoken u x c Send run =
     (secret : ℕ) × (coins : List ℕ)
     × (coinsKeep u secret coins ≡ true)
     × (u .i ≡ u .d)
-    × (run ≡ toEach u (λ j. send (dealtMatrix u secret coins) (dealtTo u secret coins j)))
+    × (run ≡ sendsOf u secret coins)
+    × ((lent : ℕ) × (c ≡ deals secret coins lent))
 Spoken u x c Echo run =
     (bytes : List ℕ)
     × (matrixPasses (group u) (u .k) (matrixIn u bytes) ≡ true)
     × (polynomialCheck (group u) (u .k) (matrixIn u bytes) (u .i) (polynomialsIn u bytes) ≡ true)
     × (run ≡ toEach u (λ j. echo (matrixIn u bytes) (echoFour (order u) (u .k) (polynomialsIn u bytes) j)))
+    × ((sender lent : ℕ) × (c ≡ gets sender bytes lent) × (tagIn bytes ≡ 1))
 Spoken u x c Ready run =
-    (s : ℕ) × (s < 20) × (isThere (slotAt (next x c) s .pair .kept) ≡ true) × (run ≡ toEach u (readyOf u (slotAt (next x c) s)))
-Spoken u x c Recovery run = run ≡ shareBytes u (completedShare x (x .progress .completion))
+    (s : ℕ)
+    × (s < 20)
+    × (isThere (slotAt (next x c) s .pair .kept) ≡ true)
+    × (run ≡ toEach u (readyOf u (slotAt (next x c) s)))
+    × ((sender lent : ℕ) × (bytes : List ℕ) × (c ≡ gets sender bytes lent) × Has (next x c) (matrixIn u bytes) s)
+Spoken u x c Recovery run =
+    (run ≡ shareBytes u (completedShare x (x .progress .completion)))
+    × (isDone (x .progress .completion) ≡ true)
+    × ((lent : ℕ) × (c ≡ commanded lent))
 
 -- ---- an answer and its bytes
 
@@ -80,19 +92,22 @@ module _ (x : Record) where
   deals-spoken : (secret : ℕ) (coins : List ℕ) (lent : ℕ)
       → Spoken (x .setup) x (deals secret coins lent) (doing x (deals secret coins lent) .outcome .answer .sent)
       (wrote (doing x (deals secret coins lent)))
-  unfolding doing deal dealStep
+  unfolding doing deal
   deals-spoken secret coins lent =
       answered-holds (Spoken (x .setup) x (deals secret coins lent)) (firstOf (dealRows x secret coins (length {A = ℕ} (replicate lent 0))))
-      (dealStep x secret coins) x (replicate lent 0) tt
+      (dealStep x secret coins) x (replicate lent 0) refl
       (λ e.
       let c = deal-passed x secret coins (length {A = ℕ} (replicate lent 0)) e in
-      (secret, coins, c .keeps, eqb-true (x .setup .i) (x .setup .d) (c .dealer), refl))
+      let sends = deal-sends x secret coins in
+      rw (sends .0)
+      (secret, coins, c .keeps, eqb-true (x .setup .i) (x .setup .d) (c .dealer), sends .1, (lent, refl)))
 
   commanded-spoken : (lent : ℕ)
       → Spoken (x .setup) x (commanded lent) (doing x (commanded lent) .outcome .answer .sent) (wrote (doing x (commanded lent)))
   unfolding doing recover recoverStep
   commanded-spoken lent =
-      answered-holds (Spoken (x .setup) x (commanded lent)) _ (recoverStep x) x (replicate lent 0) tt (λ e. refl)
+      answered-holds (Spoken (x .setup) x (commanded lent)) _ (recoverStep x) x (replicate lent 0) refl
+      (λ e. (refl, recover-passed x (length {A = ℕ} (replicate lent 0)) e .completed, (lent, refl)))
 
   -- ---- a delivery
 
@@ -105,8 +120,11 @@ module _ (x : Record) where
     Tells st = Spoken (x .setup) x it (st .sent) (st .bytes)
 
     -- an echo or a ready: the slot that it is taken into
-    module _ (b : Side) (C : List (List Element)) (f : Four) (out : doing x it .outcome ≡ accepted (stepOf b x (sender - 1) C f))
-        (found : Found x C (slotFor x C)) where
+    module _ (b : Side) (f : Four) (out : doing x it .outcome ≡ accepted (stepOf b x (sender - 1) (matrixIn (x .setup) bytes) f))
+        (found : Found x (matrixIn (x .setup) bytes) (slotFor x (matrixIn (x .setup) bytes))) where
+      abbrev C : List (List Element)
+      C = matrixIn (x .setup) bytes
+
       abbrev new : Slot
       new = taken b (opened C (slotAt x (slotFor x C))) (sender - 1) f
 
@@ -117,6 +135,13 @@ module _ (x : Record) where
       unfolding accepted
       slot-now e = ap (λ (o : Outcome). slotAt (o .next) (slotFor x C)) out ∙ slot-sent b x g (sender - 1) C f found e
 
+      now-has : Has (next x it) C (slotFor x C)
+      unfolding accepted
+      now-has =
+          let to : next x it ≡ stepOf b x (sender - 1) C f .after = ap (λ (o : Outcome). o .next) out in
+          let tk = took b x g (sender - 1) C f found (subst Good to (turn x g it .good)) in
+          subst (λ (y : Record). Has y C (slotFor x C)) (sym to) (tk .has C (agree-self (x .setup .k) C))
+
       -- ready is sent
       sends-ready : sends ≡ true → Spoken (x .setup) x it Ready (toEach (x .setup) (readyOf (x .setup) new))
       unfolding keeping matrixOf
@@ -126,19 +151,20 @@ module _ (x : Record) where
             found .within,
             ap (λ (w : Slot). isThere (w .pair .kept)) now,
             ap (λ (w : Slot). toEach (x .setup) (readyOf (x .setup) w)) (sym now),
+            (sender, lent, bytes, refl, now-has),
           )
 
-    step-tells : (b : Side) (C : List (List Element)) (f : Four) → doing x it .outcome ≡ accepted (stepOf b x (sender - 1) C f)
-        → Found x C (slotFor x C) → Tells (stepOf b x (sender - 1) C f)
+    step-tells : (b : Side) (f : Four) → doing x it .outcome ≡ accepted (stepOf b x (sender - 1) (matrixIn (x .setup) bytes) f)
+        → Found x (matrixIn (x .setup) bytes) (slotFor x (matrixIn (x .setup) bytes)) → Tells (stepOf b x (sender - 1) (matrixIn (x .setup) bytes) f)
     unfolding pointStep pointAt readySent completed heard slotFor ownSlot freeSlot
-    step-tells b C f out found =
-        pick-either Tells (sends b C f out found) _ _ (sends-ready b C f out found)
-        (λ e. pick-either Tells (completionDue (x .setup) b (new b C f out found)) _ _ (λ q. tt) (λ q. tt))
+    step-tells b f out found =
+        pick-either Tells (sends b f out found) _ _ (sends-ready b f out found)
+        (λ e. pick-either Tells (completionDue (x .setup) b (new b f out found)) _ _ (λ q. refl) (λ q. refl))
 
     share-tells : (p : Pair) → Tells (shareStep (heard x 4 (sender - 1)) (sender - 1) p)
     unfolding shareStep recovering heard
     share-tells p =
-        pick-either Tells (eqb (sharesKept (sharing x (sender - 1) p)) (x .setup .k)) _ _ (λ e. tt) (λ e. tt)
+        pick-either Tells (eqb (sharesKept (sharing x (sender - 1) p)) (x .setup .k)) _ _ (λ e. refl) (λ e. refl)
 
     -- a message by its tag
     abbrev says : Message
@@ -152,12 +178,12 @@ module _ (x : Record) where
       unfolding sendStep heard
       message-tells =
           by-tag u bytes (came .hearing .form)
-          (λ h. of _ (is-send u bytes h) (bytes, came .passes (omega arith), rw (is-send u bytes h) at (came .check), refl))
+          (λ h. of _ (is-send u bytes h) (bytes, came .passes (omega arith), rw (is-send u bytes h) at (came .check), refl, (sender, lent, refl, h)))
           (λ h. of _ (is-echo u bytes h)
-          (step-tells ByEcho _ _ (out-message x g sender bytes lent e _ (is-echo u bytes h))
+          (step-tells ByEcho _ (out-message x g sender bytes lent e _ (is-echo u bytes h))
           (room x (sender - 1) _ (facts-sound x (g .facts)) (came .hearing .within) ByEcho (rw h at (came .hearing .unheard)))))
           (λ h. of _ (is-ready u bytes h)
-          (step-tells ByReady _ _ (out-message x g sender bytes lent e _ (is-ready u bytes h))
+          (step-tells ByReady _ (out-message x g sender bytes lent e _ (is-ready u bytes h))
           (room x (sender - 1) _ (facts-sound x (g .facts)) (came .hearing .within) ByReady (rw h at (came .hearing .unheard)))))
           (λ h. of _ (is-recovery u bytes h) (share-tells (pairIn bytes)))
         where
@@ -172,7 +198,7 @@ module _ (x : Record) where
     gets-spoken =
         answered-holds (Spoken (x .setup) x it) (number x g sender bytes lent)
         (messageStep x (sender - 1) says) (refusalHeard (firstRow (deliverRows x sender bytes (length {A = ℕ} (replicate lent 0))) .marks) x sender bytes)
-        (replicate lent 0) tt message-tells
+        (replicate lent 0) refl message-tells
 
 -- What any call on a good record has sent.
 pub spoken : (x : Record) → Good x → (c : Call) → Spoken (x .setup) x c (doing x c .outcome .answer .sent) (wrote (doing x c))
