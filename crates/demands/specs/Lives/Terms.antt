@@ -26,15 +26,15 @@ use Rattle.demands.specs.Histories.{Call, deals, gets, commanded, doing,
 
 -- ---- what has been checked
 
--- this call is a message of sender m with this tag, for this matrix, and is accepted: it was checked
+-- this call, which got this number, is a message of sender m with this tag, for this matrix, and is accepted: it was checked
+abbrev pub checksBy : ℕ → Record → Call → ℕ → ℕ → List (List Element) → Bool
+checksBy number x (deals secret coins lent) tag m C = false
+checksBy number x (gets sender bytes lent) tag m C =
+    eqb number 0 and eqb sender m and eqb (tagIn bytes) tag and sameMatrix (x .setup .k) (matrixIn (x .setup) bytes) C
+checksBy number x (commanded lent) tag m C = false
+
 unfoldable pub checksNow : Record → Call → ℕ → ℕ → List (List Element) → Bool
-checksNow x (deals secret coins lent) tag m C = false
-checksNow x (gets sender bytes lent) tag m C =
-    eqb (doing x (gets sender bytes lent) .outcome .answer .no) 0
-    and eqb sender m
-    and eqb (tagIn bytes) tag
-    and sameMatrix (x .setup .k) (matrixIn (x .setup) bytes) C
-checksNow x (commanded lent) tag m C = false
+checksNow x c tag m C = checksBy (doing x c .outcome .answer .no) x c tag m C
 
 abbrev pub senderOf : Call → ℕ
 senderOf (deals secret coins lent) = 0
