@@ -14,6 +14,7 @@ use Rattle.rules.specs.declared.Answer.{Answer}
 use Rattle.rules.specs.declared.Completion.{Completion}
 use Rattle.rules.specs.declared.Completion.the-variants.{With}
 use Rattle.rules.specs.declared.Element.{Element}
+use Rattle.rules.specs.declared.Four.{Four}
 use Rattle.rules.specs.declared.Kept.{Kept}
 use Rattle.rules.specs.declared.Kept.the-variants.{There}
 use Rattle.rules.specs.declared.Point.{Point}
@@ -23,7 +24,7 @@ use Rattle.rules.specs.Matrices.{entry}
 use Rattle.rules.specs.Messages.{Message, send, echo, ready, recovery, bytesOf, tagIn, matrixIn, polynomialsIn, toEach}
 use Rattle.rules.specs.Dealing.{committed, shareCheck}
 use Rattle.rules.specs.Record.{slotAt, placeAt, shareAt, matrixOf, zeroRecord}
-use Rattle.rules.specs.Steps.{pairFrom, points, echoFour, ownSlot}
+use Rattle.rules.specs.Steps.{Said, pairFrom, points, echoFour, ownSlot}
 use Rattle.rules.specs.Answers.{setUp}
 use Rattle.rules.specs.Computed.{computed}
 use Rattle.rules.specs.HandSums.{class, coins, four, pair, C, dealt, point, share}
@@ -49,7 +50,7 @@ start = deals 5 coins 2048 ∷ []
 abbrev first : List ℕ
 first = bytesOf class (send D (dealt 5 coins 1))
 
-abbrev before : List Call
+abbrev pub before : List Call
 before =
     says 1 (ready D (point 1))
     ∷ says 4 (echo D (point 4))
@@ -60,7 +61,7 @@ before =
     ∷ start
 
 -- the second ready, of a box that has echoed too: it sends ready
-abbrev moment : Call
+abbrev pub moment : Call
 moment = says 2 (ready D (point 2))
 
 -- the same ready once more; it completes by the ready of box 3, is told to recover (in too short a buffer the first time), and
@@ -105,8 +106,13 @@ record Looks : Type 0 where
   readies : ℕ
   readies-then : ℕ
   readies-before : ℕ
-  -- the pair kept at the second ready
+  -- the lowest points held at the second ready, and the pair kept
+  lowest-then : List (Said Four)
   pair-then : Kept
+
+-- the k lowest points that are held for the matrix
+abbrev pub lowest : Record → List (Said Four)
+lowest x = take 2 (points (slotAt x (ownSlot x D) .places))
 
 abbrev look : Past → Looks
 look b =
@@ -128,6 +134,7 @@ look b =
       readies = readiesAt D (b .made) (b .came) (b .told);
       readies-then = readiesAt D (drop 7 (b .made)) (drop 7 (b .came)) (drop 7 (b .told));
       readies-before = readiesAt D (drop 8 (b .made)) (drop 8 (b .came)) (drop 8 (b .told));
+      lowest-then = lowest (getD (b .came) 6 zeroRecord);
       pair-then = keptFor (getD (b .came) 6 zeroRecord) D;
     }
 
@@ -150,6 +157,7 @@ looks : look (life class play)
       readies = 1;
       readies-then = 1;
       readies-before = 0;
+      lowest-then = record { box = 1; says = point 1 } ∷ record { box = 2; says = point 2 } ∷ [];
       pair-then = There (pair 7 8);
     }
 unfolding computed doing life takes eOf rOf keptFor howMany checksNow readiesAt
@@ -157,7 +165,7 @@ looks = refl
 
 -- ---- what it comes to
 
-abbrev then : Record
+abbrev pub then : Record
 then = after class (moment ∷ before)
 
 abbrev end : Record
@@ -186,8 +194,9 @@ pub record Life : Type 0 where
   pub echoes : howMany (λ (a : Answer). isEcho (a .sent)) (answers class play) ≡ 1
   pub readies : readiesSent class play D ≡ 1
   pub completions : howMany (λ (a : Answer). a .completed) (answers class play) ≡ 1
-  -- the pair was kept when ready was sent, and stays
+  -- the pair was kept when ready was sent, out of the points of 1 and 2, and stays
   pub sends-ready : readiesSent class (moment ∷ before) D ≡ readiesSent class before D + 1
+  pub lowest : lowest then ≡ record { box = 1; says = point 1 } ∷ record { box = 2; says = point 2 } ∷ []
   pub kept : keptFor then D ≡ There (pair 7 8)
   pub stays : keptFor end D ≡ There (pair 7 8)
 
@@ -217,6 +226,7 @@ one-life =
           sym (readies-sent class D (moment ∷ before))
           ∙ ap (λ l. l .readies-then) all
           ∙ ap (λ n. n + 1) (sym (ap (λ l. l .readies-before) all) ∙ readies-sent class D before);
+      lowest = ap (λ l. l .lowest-then) all;
       kept = ap (λ l. l .pair-then) all;
       stays = ap (λ l. l .kept) all;
     }
@@ -228,7 +238,7 @@ pub record Says : Type 0 where
   pub r : countBelow 10 (λ m. checked class play 3 (m + 1) D) ≡ 3
   pub echoes : wrote (doing (after class start) (gets 1 first 2048))
       ≡ toEach class (λ j. echo (matrixIn class first) (echoFour (order class) 2 (polynomialsIn class first) j))
-  pub kept : There (pair 7 8) ≡ There (pairFrom (order class) (take 2 (points (slotAt then (ownSlot then D) .places))))
+  pub kept : There (pair 7 8) ≡ There (pairFrom (order class) (lowest then))
   pub passes : shareCheck (group class) 2 (matrixOf (slotAt end 0)) 1 (pair 7 8) ≡ true
   pub opens : committed (group class) 5 1 ≡ entry (matrixOf (slotAt end 0)) 0 0
 
