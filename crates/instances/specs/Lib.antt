@@ -12,4 +12,5 @@ pub mod Accepted
 pub mod Boxes
 pub mod Sheets
 pub mod Map
+pub mod Script
 pub mod Hidden
