@@ -1,4 +1,5 @@
--- Demand 3 of the script of Script, in which the set lies: both runs computed, and what `hides` says of them.
+-- Demand 3 of the script of Script, in which the set lies: both runs computed, and what `hides` says of them. Lists have the latest
+-- first.
 --
 -- In order: what is computed of both runs; what it comes to; that the two secrets differ; what `hides` supposes, and says.
 -- Assumes nothing.
@@ -23,7 +24,7 @@ use Rattle.rules.specs.Steps.{recoveredFrom}
 use Rattle.rules.specs.Computed.{computed}
 use Rattle.rules.specs.HandSums.{pair}
 use Rattle.rules.specs.Laws.Numbers.{is-box}
-use Rattle.demands.specs.Histories.{doing, answers, messageTo, keeps, mayBreak, own, Event, calls, recordOf, seen}
+use Rattle.demands.specs.Histories.{doing, messageTo, keeps, mayBreak, own, Event, recordOf, seen}
 use Rattle.demands.specs.Sharing.{order, dealtShare}
 use Rattle.demands.specs.Matching.{matching}
 use Rattle.demands.specs.Hiding.{played, Uncommanded, Alike, hides}
@@ -100,7 +101,7 @@ lookAt run = look (run .saw) (boxIn run 1) (boxIn run 3) (boxIn run 5)
 abbrev sight : List ℕ → ℕ → ℕ → ℕ → Pair → Sight
 sight told place e r p = record { told = told; completed = With place; matrix = D; e = e; r = r; kept = There p; commanded = false }
 
--- the deals, then what is delivered: all of the latest is accepted
+-- too few coins, the short buffer and the second deal are refused
 abbrev sight-1 : Pair → Sight
 sight-1 p = sight (0 ∷ 0 ∷ 0 ∷ 0 ∷ 0 ∷ 13 ∷ 0 ∷ 15 ∷ 14 ∷ []) 0 0 4 p
 
@@ -135,17 +136,9 @@ looks* = refl
 
 -- ---- what it comes to
 
+-- of box i after these events, as Histories says
 abbrev at : List Event → ℕ → ℕ → Sight
-at es i s =
-    record {
-      told = map (λ (a : Answer). a .no) (answers (own numbers i) (calls room es i));
-      completed = recordOf room es i .progress .completion;
-      matrix = matrixOf (slotAt (recordOf room es i) s);
-      e = countE (slotAt (recordOf room es i) s);
-      r = countR (slotAt (recordOf room es i) s);
-      kept = slotAt (recordOf room es i) s .pair .kept;
-      commanded = recordOf room es i .progress .commanded;
-    }
+at es i s = sightOf (told-of room es i) s
 
 pub record Happens (es : List Event) (p₁ p₃ p₅ : Pair) : Type 0 where
   -- sends, echoes and readies

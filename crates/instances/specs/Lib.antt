@@ -3,7 +3,8 @@
 -- none is met by a useless box alone.
 --
 -- In order: each answer number; histories replayed; equal lists; a life in which all of demand 2 happens; a class in which what is
--- sent is accepted; points and shares of different boxes; document 01's sheet; P9 out of the map of coins; a history for demand 3.
+-- sent is accepted; points and shares of different boxes; document 01's sheet; P9 out of the map of coins; a script for demand 3,
+-- and its two runs.
 pub mod EachNumber
 pub mod Replay
 pub mod SameLists

@@ -8,6 +8,7 @@ use mathlib.Core.Bool.{Bool, true}
 use mathlib.Core.List.{List, [], _∷_, _++_, map}
 use Prim.Native.Nat.{ℕ, _+_}
 use native.Mathlib.Omega.{arith}
+use lib.Dec.{eqb}
 use lib.ListN.{length, getD, take, drop}
 use Rattle.folds.specs.Below.{countBelow}
 use Rattle.rules.specs.declared.Answer.{Answer}
@@ -23,15 +24,15 @@ use Rattle.rules.specs.declared.Record.{Record}
 use Rattle.rules.specs.Matrices.{entry}
 use Rattle.rules.specs.Messages.{Message, send, echo, ready, recovery, bytesOf, tagIn, matrixIn, polynomialsIn, toEach}
 use Rattle.rules.specs.Dealing.{committed, shareCheck}
-use Rattle.rules.specs.Record.{slotAt, placeAt, shareAt, matrixOf, zeroRecord}
-use Rattle.rules.specs.Steps.{Said, pairFrom, points, echoFour, ownSlot}
+use Rattle.rules.specs.Record.{slotAt, placeAt, shareAt, isThere, matrixOf, sound, zeroRecord}
+use Rattle.rules.specs.Steps.{Said, points, sharePoints, pairFrom, echoFour, recoveredFrom, ownSlot}
 use Rattle.rules.specs.Answers.{setUp}
 use Rattle.rules.specs.Computed.{computed}
 use Rattle.rules.specs.HandSums.{class, coins, four, pair, C, dealt, point, share}
 use Rattle.demands.specs.Histories.{Call, deals, gets, commanded, doing, after, answers, wrote, sendings}
 use Rattle.demands.specs.Sharing.{group, order}
-use Rattle.demands.specs.Lives.Terms.{checksNow, checked, eOf, rOf, keptFor, isEcho, howMany, readiesSent}
-use Rattle.demands.specs.Lives.{e-counts, r-counts, kept-then, kept-passes, report-opens, exact-echo}
+use Rattle.demands.specs.Lives.Terms.{checksNow, checked, said, shareSaid, eOf, rOf, keptFor, isEcho, howMany, readiesSent}
+use Rattle.demands.specs.Lives.{life-sound, e-counts, r-counts, places-say, shares-say, recovered-from, kept-when-ready, kept-then, kept-ever, kept-passes, completed-kept, report-opens, exact-echo}
 use Rattle.instances.specs.Replay.{Past, takes, life, came-to, life-lived, readiesAt, readies-sent}
 
 abbrev pub D : List (List Element)
@@ -234,22 +235,37 @@ one-life =
 -- ---- what the statements of Lives say of it
 
 pub record Says : Type 0 where
+  pub stays-sound : sound end ≡ true
   pub e : countBelow 10 (λ m. checked class play 2 (m + 1) D) ≡ 2
   pub r : countBelow 10 (λ m. checked class play 3 (m + 1) D) ≡ 3
   pub echoes : wrote (doing (after class start) (gets 1 first 2048))
       ≡ toEach class (λ j. echo (matrixIn class first) (echoFour (order class) 2 (polynomialsIn class first) j))
+  pub there : isThere (keptFor end D) ≡ eqb (readiesSent class play D) 1
   pub kept : There (pair 7 8) ≡ There (pairFrom (order class) (lowest then))
+  pub stays : keptFor end D ≡ There (pair 7 8)
+  pub completed : isThere (slotAt end 0 .pair .kept) ≡ true
   pub passes : shareCheck (group class) 2 (matrixOf (slotAt end 0)) 1 (pair 7 8) ≡ true
   pub opens : committed (group class) 5 1 ≡ entry (matrixOf (slotAt end 0)) 0 0
+  pub recovered : pair 5 1 ≡ recoveredFrom (order class) (sharePoints (end .shares))
+  -- of box 3, which said both
+  pub point-said : said class play 3 (matrixOf (slotAt end 0)) ≡ Held (point 3)
+  pub share-said : shareSaid class play 3 ≡ There (pair 0 0)
 
 pub life-says : Says
 life-says =
     let l = one-life in
     record {
+      stays-sound = life-sound class (l .taken) play .0;
       e = sym (e-counts class (l .taken) play D) ∙ l .e;
       r = sym (r-counts class (l .taken) play D) ∙ l .r;
       echoes = exact-echo class (l .taken) start 1 2048 first (l .tag) (l .accepted) .1;
+      there = kept-when-ready class (l .taken) play D;
       kept = sym (l .kept) ∙ kept-then class (l .taken) before moment D (l .sends-ready);
+      stays = kept-ever class (l .taken) (moment ∷ before) D (pair 7 8) later (l .kept);
+      completed = completed-kept class (l .taken) play 0 (l .completed) .1;
       passes = kept-passes class (l .taken) play 0 (pair 7 8) (omega arith) (l .pair-kept);
       opens = report-opens class (l .taken) play 0 (pair 5 1) (l .completed) (l .recovered);
+      recovered = recovered-from class (l .taken) play (pair 5 1) (l .recovered);
+      point-said = sym (places-say class (l .taken) play 0 2 (omega arith) (omega arith) (l .used)) ∙ l .held;
+      share-said = sym (shares-say class (l .taken) play 2 (omega arith)) ∙ l .shared;
     }

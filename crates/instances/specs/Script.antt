@@ -71,6 +71,11 @@ pub matches : matching numbers set 5 0 coins ≡ coins*
 unfolding computed vanishing difference′ moved matching
 matches = refl
 
+-- they are coins of a deal, and match back
+pub back : (coinsKeep numbers 0 coins* ≡ true) × (matching numbers set 0 5 coins* ≡ coins)
+unfolding computed vanishing difference′ moved matching
+back = (refl, refl)
+
 -- ---- what the set makes up
 
 -- h is g to the 8: with 2 less in the second number and 16 more in the first it is the same commitment (P8 for points)
