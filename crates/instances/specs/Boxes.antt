@@ -1,8 +1,9 @@
--- Points and shares of different boxes, as the statements of Sharing suppose them, of the same deal.
+-- Points and shares of different boxes, as the statements of Sharing and Completeness suppose them, of the same deal.
 --
--- In order: two boxes of the class; dealt and checked ones, and P8; what the statements say of them.
+-- In order: two boxes of the class; dealt and checked ones, and P8; what the statements of Sharing say of them; the points held in
+-- a life, and what Completeness says of the pair kept.
 -- Assumes nothing.
-use mathlib.Core.Path.{_≡_, refl, sym, ap, _∙_}
+use mathlib.Core.Path.{_≡_, refl, sym, ap, subst, _∙_}
 use mathlib.Core.Bool.{true}
 use mathlib.Core.List.{List, [], _∷_}
 use mathlib.Core.Logic.{_≢_}
@@ -11,7 +12,9 @@ use native.Mathlib.Nat.{not-suc-le-zero, le-of-suc-le-suc}
 use native.Mathlib.Omega.{arith}
 use lib.ListN.{getD}
 use Rattle.rules.specs.declared.Four.{Four}
+use Rattle.rules.specs.declared.Kept.the-variants.{There}
 use Rattle.rules.specs.declared.Pair.{Pair}
+use Rattle.rules.specs.Numbers.{groups, groupOf}
 use Rattle.rules.specs.Matrices.{entry, zeroFour}
 use Rattle.rules.specs.Dealing.{coinsKeep, committed, matrixPasses, shareCheck, pointCheck}
 use Rattle.rules.specs.Steps.{Said, recoveredFrom}
@@ -19,7 +22,9 @@ use Rattle.rules.specs.Answers.{noPair}
 use Rattle.rules.specs.Computed.{computed}
 use Rattle.rules.specs.HandSums.{class, coins, pair, point}
 use Rattle.demands.specs.Sharing.{group, order, Sound, dealtShare, dealtPoint, Different, shares-give, shares-open}
-use Rattle.instances.specs.Life.{D}
+use Rattle.demands.specs.Lives.Terms.{keptFor}
+use Rattle.demands.specs.Completeness.{dealt-share-kept}
+use Rattle.instances.specs.Life.{D, before, moment, lowest, then, one-life}
 
 -- ---- two boxes
 
@@ -115,3 +120,20 @@ pub others-open : committed (group class) 3 4 ≡ entry D 0 0
 others-open =
     ap (λ (s : Pair). committed (group class) (s .first .0) (s .second .0)) (sym (differ .gives-other))
     ∙ shares-open class class-sound D dealt-passes others (differ .other-shares)
+
+-- ---- the points held in a life when ready is sent
+
+pub held-dealt : Different class zeroFour (lowest then) (λ m f. f ≡ dealtPoint class 5 coins m 1)
+unfolding groups groupOf
+held-dealt =
+    subst (λ (ps : List (Said Four)). Different class zeroFour ps (λ m f. f ≡ dealtPoint class 5 coins m 1)) (sym (one-life .lowest))
+    (two zeroFour (λ m f. f ≡ dealtPoint class 5 coins m 1) 1 2 _ _ (omega arith) (omega arith) (omega arith) refl refl)
+
+-- P2: the dealt share of box 1
+dealt-to-1 : dealtShare class 5 coins 1 ≡ pair 7 8
+unfolding computed
+dealt-to-1 = refl
+
+pub kept-dealt : keptFor then D ≡ There (pair 7 8)
+kept-dealt =
+    dealt-share-kept class (one-life .taken) before moment D (one-life .sends-ready) 5 coins coins-keep held-dealt ∙ ap There dealt-to-1

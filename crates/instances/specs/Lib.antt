@@ -1,12 +1,17 @@
 -- Computed plays: one in which every answer number is met; and histories that meet what statements of `demands` suppose of
--- sharing, of the life of a box and in demand 3, and in which something happens, so that none is met by a useless box alone.
+-- sharing, of completeness, of the life of a box, of the recovery sheet and in demand 3, and in which something happens, so that
+-- none is met by a useless box alone.
 --
--- In order: each answer number; histories replayed; equal lists; a life in which all of demand 2 happens; points and shares of
--- different boxes; P9 out of the map of coins; a history for demand 3.
+-- In order: each answer number; histories replayed; equal lists; a life in which all of demand 2 happens; a class in which what is
+-- sent is accepted; points and shares of different boxes; document 01's sheet; P9 out of the map of coins; a script for demand 3,
+-- and its two runs.
 pub mod EachNumber
 pub mod Replay
 pub mod SameLists
 pub mod Life
+pub mod Accepted
 pub mod Boxes
+pub mod Sheets
 pub mod Map
+pub mod Script
 pub mod Hidden

@@ -8,12 +8,14 @@ use mathlib.Core.Bool.{Bool, true}
 use mathlib.Core.List.{List, [], _∷_, _++_, map}
 use Prim.Native.Nat.{ℕ, _+_}
 use native.Mathlib.Omega.{arith}
+use lib.Dec.{eqb}
 use lib.ListN.{length, getD, take, drop}
 use Rattle.folds.specs.Below.{countBelow}
 use Rattle.rules.specs.declared.Answer.{Answer}
 use Rattle.rules.specs.declared.Completion.{Completion}
 use Rattle.rules.specs.declared.Completion.the-variants.{With}
 use Rattle.rules.specs.declared.Element.{Element}
+use Rattle.rules.specs.declared.Four.{Four}
 use Rattle.rules.specs.declared.Kept.{Kept}
 use Rattle.rules.specs.declared.Kept.the-variants.{There}
 use Rattle.rules.specs.declared.Point.{Point}
@@ -22,15 +24,15 @@ use Rattle.rules.specs.declared.Record.{Record}
 use Rattle.rules.specs.Matrices.{entry}
 use Rattle.rules.specs.Messages.{Message, send, echo, ready, recovery, bytesOf, tagIn, matrixIn, polynomialsIn, toEach}
 use Rattle.rules.specs.Dealing.{committed, shareCheck}
-use Rattle.rules.specs.Record.{slotAt, placeAt, shareAt, matrixOf, zeroRecord}
-use Rattle.rules.specs.Steps.{pairFrom, points, echoFour, ownSlot}
+use Rattle.rules.specs.Record.{slotAt, placeAt, shareAt, isThere, matrixOf, sound, zeroRecord}
+use Rattle.rules.specs.Steps.{Said, points, sharePoints, pairFrom, echoFour, recoveredFrom, ownSlot}
 use Rattle.rules.specs.Answers.{setUp}
 use Rattle.rules.specs.Computed.{computed}
 use Rattle.rules.specs.HandSums.{class, coins, four, pair, C, dealt, point, share}
 use Rattle.demands.specs.Histories.{Call, deals, gets, commanded, doing, after, answers, wrote, sendings}
 use Rattle.demands.specs.Sharing.{group, order}
-use Rattle.demands.specs.Lives.Terms.{checksNow, checked, eOf, rOf, keptFor, isEcho, howMany, readiesSent}
-use Rattle.demands.specs.Lives.{e-counts, r-counts, kept-then, kept-passes, report-opens, exact-echo}
+use Rattle.demands.specs.Lives.Terms.{checksNow, checked, said, shareSaid, eOf, rOf, keptFor, isEcho, howMany, readiesSent}
+use Rattle.demands.specs.Lives.{life-sound, e-counts, r-counts, places-say, shares-say, recovered-from, kept-when-ready, kept-then, kept-ever, kept-passes, completed-kept, report-opens, exact-echo}
 use Rattle.instances.specs.Replay.{Past, takes, life, came-to, life-lived, readiesAt, readies-sent}
 
 abbrev pub D : List (List Element)
@@ -49,7 +51,7 @@ start = deals 5 coins 2048 ∷ []
 abbrev first : List ℕ
 first = bytesOf class (send D (dealt 5 coins 1))
 
-abbrev before : List Call
+abbrev pub before : List Call
 before =
     says 1 (ready D (point 1))
     ∷ says 4 (echo D (point 4))
@@ -60,7 +62,7 @@ before =
     ∷ start
 
 -- the second ready, of a box that has echoed too: it sends ready
-abbrev moment : Call
+abbrev pub moment : Call
 moment = says 2 (ready D (point 2))
 
 -- the same ready once more; it completes by the ready of box 3, is told to recover (in too short a buffer the first time), and
@@ -105,8 +107,13 @@ record Looks : Type 0 where
   readies : ℕ
   readies-then : ℕ
   readies-before : ℕ
-  -- the pair kept at the second ready
+  -- the lowest points held at the second ready, and the pair kept
+  lowest-then : List (Said Four)
   pair-then : Kept
+
+-- the k lowest points that are held for the matrix
+abbrev pub lowest : Record → List (Said Four)
+lowest x = take 2 (points (slotAt x (ownSlot x D) .places))
 
 abbrev look : Past → Looks
 look b =
@@ -128,6 +135,7 @@ look b =
       readies = readiesAt D (b .made) (b .came) (b .told);
       readies-then = readiesAt D (drop 7 (b .made)) (drop 7 (b .came)) (drop 7 (b .told));
       readies-before = readiesAt D (drop 8 (b .made)) (drop 8 (b .came)) (drop 8 (b .told));
+      lowest-then = lowest (getD (b .came) 6 zeroRecord);
       pair-then = keptFor (getD (b .came) 6 zeroRecord) D;
     }
 
@@ -150,6 +158,7 @@ looks : look (life class play)
       readies = 1;
       readies-then = 1;
       readies-before = 0;
+      lowest-then = record { box = 1; says = point 1 } ∷ record { box = 2; says = point 2 } ∷ [];
       pair-then = There (pair 7 8);
     }
 unfolding computed doing life takes eOf rOf keptFor howMany checksNow readiesAt
@@ -157,7 +166,7 @@ looks = refl
 
 -- ---- what it comes to
 
-abbrev then : Record
+abbrev pub then : Record
 then = after class (moment ∷ before)
 
 abbrev end : Record
@@ -186,8 +195,9 @@ pub record Life : Type 0 where
   pub echoes : howMany (λ (a : Answer). isEcho (a .sent)) (answers class play) ≡ 1
   pub readies : readiesSent class play D ≡ 1
   pub completions : howMany (λ (a : Answer). a .completed) (answers class play) ≡ 1
-  -- the pair was kept when ready was sent, and stays
+  -- the pair was kept when ready was sent, out of the points of 1 and 2, and stays
   pub sends-ready : readiesSent class (moment ∷ before) D ≡ readiesSent class before D + 1
+  pub lowest : lowest then ≡ record { box = 1; says = point 1 } ∷ record { box = 2; says = point 2 } ∷ []
   pub kept : keptFor then D ≡ There (pair 7 8)
   pub stays : keptFor end D ≡ There (pair 7 8)
 
@@ -217,6 +227,7 @@ one-life =
           sym (readies-sent class D (moment ∷ before))
           ∙ ap (λ l. l .readies-then) all
           ∙ ap (λ n. n + 1) (sym (ap (λ l. l .readies-before) all) ∙ readies-sent class D before);
+      lowest = ap (λ l. l .lowest-then) all;
       kept = ap (λ l. l .pair-then) all;
       stays = ap (λ l. l .kept) all;
     }
@@ -224,22 +235,37 @@ one-life =
 -- ---- what the statements of Lives say of it
 
 pub record Says : Type 0 where
+  pub stays-sound : sound end ≡ true
   pub e : countBelow 10 (λ m. checked class play 2 (m + 1) D) ≡ 2
   pub r : countBelow 10 (λ m. checked class play 3 (m + 1) D) ≡ 3
   pub echoes : wrote (doing (after class start) (gets 1 first 2048))
       ≡ toEach class (λ j. echo (matrixIn class first) (echoFour (order class) 2 (polynomialsIn class first) j))
-  pub kept : There (pair 7 8) ≡ There (pairFrom (order class) (take 2 (points (slotAt then (ownSlot then D) .places))))
+  pub there : isThere (keptFor end D) ≡ eqb (readiesSent class play D) 1
+  pub kept : There (pair 7 8) ≡ There (pairFrom (order class) (lowest then))
+  pub stays : keptFor end D ≡ There (pair 7 8)
+  pub completed : isThere (slotAt end 0 .pair .kept) ≡ true
   pub passes : shareCheck (group class) 2 (matrixOf (slotAt end 0)) 1 (pair 7 8) ≡ true
   pub opens : committed (group class) 5 1 ≡ entry (matrixOf (slotAt end 0)) 0 0
+  pub recovered : pair 5 1 ≡ recoveredFrom (order class) (sharePoints (end .shares))
+  -- of box 3, which said both
+  pub point-said : said class play 3 (matrixOf (slotAt end 0)) ≡ Held (point 3)
+  pub share-said : shareSaid class play 3 ≡ There (pair 0 0)
 
 pub life-says : Says
 life-says =
     let l = one-life in
     record {
+      stays-sound = life-sound class (l .taken) play .0;
       e = sym (e-counts class (l .taken) play D) ∙ l .e;
       r = sym (r-counts class (l .taken) play D) ∙ l .r;
       echoes = exact-echo class (l .taken) start 1 2048 first (l .tag) (l .accepted) .1;
+      there = kept-when-ready class (l .taken) play D;
       kept = sym (l .kept) ∙ kept-then class (l .taken) before moment D (l .sends-ready);
+      stays = kept-ever class (l .taken) (moment ∷ before) D (pair 7 8) later (l .kept);
+      completed = completed-kept class (l .taken) play 0 (l .completed) .1;
       passes = kept-passes class (l .taken) play 0 (pair 7 8) (omega arith) (l .pair-kept);
       opens = report-opens class (l .taken) play 0 (pair 5 1) (l .completed) (l .recovered);
+      recovered = recovered-from class (l .taken) play (pair 5 1) (l .recovered);
+      point-said = sym (places-say class (l .taken) play 0 2 (omega arith) (omega arith) (l .used)) ∙ l .held;
+      share-said = sym (shares-say class (l .taken) play 2 (omega arith)) ∙ l .shared;
     }

@@ -78,30 +78,30 @@ module _ (u : SetUp) (sound : Sound u) (A : ℕ → Bool) (few : Few u A) (s s�
 -- ---- the class
 
 -- as in the hand sums, but dealt by box 2
-abbrev pub numbers : SetUp
+abbrev numbers : SetUp
 numbers = record { group = 1; n = 4; t = 1; k = 2; i = 2; d = 2; session = 7 }
 
 -- box 1
-abbrev pub set : ℕ → Bool
+abbrev set : ℕ → Bool
 set m = eqb m 1
 
-pub numbers-sound : Sound numbers
+numbers-sound : Sound numbers
 unfolding computed
 numbers-sound = record { group-keeps = refl; sizes-keep = refl }
 
-pub few : Few numbers set
+few : Few numbers set
 unfolding computed
 few = omega arith
 
-pub low-5 : 5 < order numbers
+low-5 : 5 < order numbers
 unfolding computed
 low-5 = omega arith
 
-pub low-6 : 6 < order numbers
+low-6 : 6 < order numbers
 unfolding computed
 low-6 = omega arith
 
-pub coins-keep : coinsKeep numbers 5 coins ≡ true
+coins-keep : coinsKeep numbers 5 coins ≡ true
 unfolding computed
 coins-keep = refl
 
