@@ -5,7 +5,7 @@
 -- (`SentTwice`); the steps (`Steps`) and calls (`Outcomes`) of a moved record; a message that comes in (`Arrivals`, `Deliveries`); the
 -- deal (`Dealt`); ready is sent for the dealt matrix alone (`Ripe`); one box in two runs (`TwoLives`).
 -- Here: one script for two deals; no recovery has been commanded; two histories that look the same; the two runs, box by box; what the
--- set sees, and what the others hold; the statement.
+-- set sees, and what the others hold; the statement; the same of a set that answers to what it has seen.
 -- Assumes nothing.
 pub mod Moves
 pub mod Hypotheses
@@ -23,7 +23,7 @@ use mathlib.Core.Path.{_≡_, refl, sym, ap, ap₂, _∙_, subst}
 use mathlib.Core.Bool.{Bool, true, false, not}
 use mathlib.Core.Logic.{inl, inr}
 use mathlib.Core.List.{List, [], _∷_, _++_, map}
-use Prim.Native.Nat.{ℕ, _<_}
+use Prim.Native.Nat.{ℕ, zero, suc, _<_}
 use lib.Dec.{eqb}
 use borrow.Author.Tests.{eqb-true, not-true}
 use Rattle.folds.specs.Tests.{_and_, pick, and-left, and-right, pick-either, pick-two}
@@ -232,3 +232,48 @@ hides c group numbers few dealer s s′ low low′ coins keep script u =
     alike (record { class = c; s = s; s′ = s′; coins = coins })
     (record { group-keeps = group; numbers-keep = numbers; few = few; dealer = dealer; low = low; low′ = low′; coins-keep = keep })
     script u
+
+-- ---- a set that answers to what it has seen
+
+-- what happens next, by how much has happened and what the set has seen
+abbrev pub Strategy : Type 0
+Strategy = ℕ → List (List ℕ) → Event
+
+-- the script that it makes in a run of so many events
+unfoldable pub scriptBy : Class → Strategy → ℕ → List ℕ → ℕ → List Event
+scriptBy c strategy secret coins zero = []
+scriptBy c strategy secret coins (suc n) =
+    strategy n (seen c (played (c .numbers) secret coins (scriptBy c strategy secret coins n))) ∷ scriptBy c strategy secret coins n
+
+-- it sees the same in both runs, so it makes the same script, and both runs look the same
+pub hides-adaptively : (c : Class) → groupKeeps (c .numbers) ≡ true → numbersKeep (own (c .numbers) (c .numbers .d)) ≡ true
+    → Few (c .numbers) (c .breaks) → c .breaks (c .numbers .d) ≡ false
+    → (s s′ : ℕ) → s < order (c .numbers) → s′ < order (c .numbers)
+    → (coins : List ℕ) → coinsKeep (c .numbers) s coins ≡ true
+    → (strategy : Strategy) (n : ℕ) → Uncommanded c (played (c .numbers) s coins (scriptBy c strategy s coins n))
+    → Alike c (played (c .numbers) s coins (scriptBy c strategy s coins n))
+    (played (c .numbers) s′ (matching (c .numbers) (c .breaks) s s′ coins)
+    (scriptBy c strategy s′ (matching (c .numbers) (c .breaks) s s′ coins) n))
+unfolding scriptBy played
+hides-adaptively c group numbers few dealer s s′ low low′ coins keep strategy n u =
+    subst (λ (script : List Event). Alike c (run (scriptBy c strategy s coins n)) (run′ script)) (same n u) (looks (scriptBy c strategy s coins n) u)
+  where
+    coins* : List ℕ
+    coins* = matching (c .numbers) (c .breaks) s s′ coins
+
+    run : List Event → List Event
+    run = played (c .numbers) s coins
+
+    run′ : List Event → List Event
+    run′ = played (c .numbers) s′ coins*
+
+    looks : (script : List Event) → Uncommanded c (run script) → Alike c (run script) (run′ script)
+    looks = hides c group numbers few dealer s s′ low low′ coins keep
+
+    same : (n : ℕ) → Uncommanded c (run (scriptBy c strategy s coins n)) → scriptBy c strategy s coins n ≡ scriptBy c strategy s′ coins* n
+    same zero u = refl
+    same (suc n) u =
+        let before = earlier c _ (run (scriptBy c strategy s coins n)) u in
+        let es = same n before in
+        ap₂ (λ (saw : List (List ℕ)) (script : List Event). strategy n saw ∷ script)
+        (looks (scriptBy c strategy s coins n) before .bytes ∙ ap (λ (script : List Event). seen c (run′ script)) es) es
