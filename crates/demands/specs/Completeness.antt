@@ -32,10 +32,12 @@ use Rattle.rules.specs.Laws.Numbers.{bounds, box-is}
 use Rattle.rules.specs.Laws.Agreement.{share-agree}
 use Rattle.rules.specs.Laws.RoundTrip.{MatrixFits, Fits, matrixPart}
 use Rattle.rules.specs.Laws.Ranges.{four-room, pair-room, read-room, slot-room, dealt-room, dealt-rooms}
-use Rattle.demands.specs.Histories.{Call, gets, doing, after, wrote, messageTo, own}
+use Rattle.demands.specs.Terms.Histories.{Call, gets, doing, after, wrote, messageTo, keeps, own}
 use Rattle.demands.specs.MessageTo.{message-to}
-use Rattle.demands.specs.Sharing.{group, order, size, Different, dealtPoint, dealtShare, send-passes, echo-passes, ready-passes, points-give}
-use Rattle.demands.specs.Lives.{keptFor, lowestFor, readiesSent, life-sound, kept-then, kept-passes, completed-kept}
+use Rattle.demands.specs.Terms.Dealing.{group, order, dealtPoint, dealtShare, Different}
+use Rattle.demands.specs.Sharing.{size, send-passes, echo-passes, ready-passes, points-give}
+use Rattle.demands.specs.Terms.Lives.{keptFor, lowestFor, readiesSent, answerTo}
+use Rattle.demands.specs.Lives.{life-sound, kept-then, kept-passes, completed-kept}
 use Rattle.demands.specs.Lives.Slots.{slot-used, there-some}
 use Rattle.demands.specs.Lives.Born.{good, own-setup, numbers-keep, facts-at}
 use Rattle.demands.specs.Lives.Readies.{used-there, held-differ}
@@ -84,10 +86,6 @@ own-box u i taken =
 -- a box i and a box j of one class, each after calls of its own; box i's next call sends; what it sends to j is delivered
 module _ (u : SetUp) (i j : ℕ) (taken : setUp (own u i) .answer .no ≡ 0) (taken′ : setUp (own u j) .answer .no ≡ 0)
     (cs cs′ : List Call) (c : Call) (lent : ℕ) (long : 2048 ≤ lent) where
-  -- the answer of box j
-  abbrev pub answered : ℕ
-  answered = doing (after (own u j) cs′) (gets i (messageTo (u .n) (wrote (doing (after (own u i) cs) c)) j) lent) .outcome .answer .no
-
   abbrev sender : Record
   sender = after (own u i) cs
 
@@ -108,7 +106,7 @@ module _ (u : SetUp) (i j : ℕ) (taken : setUp (own u i) .answer .no ≡ 0) (ta
 
   -- a call that wrote f j for each j, where f j is welcome at j
   arrives : (f : ℕ → Message) (tag : ℕ) → ((m : ℕ) → tagOf (f m) ≡ tag) → wrote (doing sender c) ≡ toEach (own u i) f
-      → Welcome addressee i (f j) → answered ≡ 0
+      → Welcome addressee i (f j) → answerTo u i j cs cs′ c lent ≡ 0
   arrives f tag same run w =
       let b = own-box u j taken′ in
       let one : bytesOf (own u i) (f j) ≡ bytesOf (own u j) (f j) = own-bytes u i (f j) ∙ sym (own-bytes u j (f j)) in
@@ -135,7 +133,7 @@ module _ (u : SetUp) (i j : ℕ) (taken : setUp (own u i) .answer .no ≡ 0) (ta
         check = check;
       }
 
-  pub send-accepted : doing (after (own u i) cs) c .outcome .answer .sent ≡ Send → heardFor (after (own u j) cs′) 1 (i - 1) ≡ false → answered ≡ 0
+  pub send-accepted : doing (after (own u i) cs) c .outcome .answer .sent ≡ Send → heardFor (after (own u j) cs′) 1 (i - 1) ≡ false → answerTo u i j cs cs′ c lent ≡ 0
   unfolding tagOf
   send-accepted e unheard =
       let t = said-by Send e in
@@ -146,7 +144,7 @@ module _ (u : SetUp) (i j : ℕ) (taken : setUp (own u i) .answer .no ≡ 0) (ta
       (with-matrix _ (omega arith) (dealt-room (own u i) (numbers .group-keeps) high _ _, dealt-rooms (own u i) (numbers .group-keeps) high _ _ j)
       (λ q. t .3) unheard (λ q. ok .0) (ok .1) (rw at-j (ok .2)))
 
-  pub echo-accepted : doing (after (own u i) cs) c .outcome .answer .sent ≡ Echo → heardFor (after (own u j) cs′) 2 (i - 1) ≡ false → answered ≡ 0
+  pub echo-accepted : doing (after (own u i) cs) c .outcome .answer .sent ≡ Echo → heardFor (after (own u j) cs′) 2 (i - 1) ≡ false → answerTo u i j cs cs′ c lent ≡ 0
   unfolding tagOf
   echo-accepted e unheard =
       let t = said-by Echo e in
@@ -157,7 +155,7 @@ module _ (u : SetUp) (i j : ℕ) (taken : setUp (own u i) .answer .no ≡ 0) (ta
       (with-matrix _ (omega arith) (read-room (own u i) (numbers .group-keeps) high (t .0) (t .1), four-room (own u i) (numbers .group-keeps) high _ (ok .0))
       (λ q. absurd (omega arith)) unheard (λ q. t .1) (ok .0) (rw at-j (ok .1)))
 
-  pub ready-accepted : doing (after (own u i) cs) c .outcome .answer .sent ≡ Ready → heardFor (after (own u j) cs′) 3 (i - 1) ≡ false → answered ≡ 0
+  pub ready-accepted : doing (after (own u i) cs) c .outcome .answer .sent ≡ Ready → heardFor (after (own u j) cs′) 3 (i - 1) ≡ false → answerTo u i j cs cs′ c lent ≡ 0
   unfolding tagOf after
   ready-accepted e unheard =
       let t = said-by Ready e in
@@ -174,7 +172,7 @@ module _ (u : SetUp) (i j : ℕ) (taken : setUp (own u i) .answer .no ≡ 0) (ta
       → after (own u i) cs .progress .completion ≡ With s → after (own u j) cs′ .progress .completion ≡ With s′
       → sameMatrix (u .k) (matrixOf (slotAt (after (own u i) cs) s)) (matrixOf (slotAt (after (own u j) cs′) s′)) ≡ true
       → after (own u j) cs′ .progress .commanded ≡ true → after (own u j) cs′ .recovered .kept ≡ Absent
-      → heardFor (after (own u j) cs′) 4 (i - 1) ≡ false → answered ≡ 0
+      → heardFor (after (own u j) cs′) 4 (i - 1) ≡ false → answerTo u i j cs cs′ c lent ≡ 0
   unfolding tagOf
   share-accepted s s′ e done done′ agree commanded unrecovered unheard =
       let numbers = numbers-keep (own u i) taken in

@@ -29,18 +29,18 @@ use Rattle.rules.specs.Steps.{Said, sharePoints, pairFrom, echoFour, recoveredF
 use Rattle.rules.specs.Answers.{noPair, setUp}
 use Rattle.rules.specs.Sheet.{boxLines, secretLine, printed}
 use Rattle.rules.specs.Laws.Shape.{Shaped}
-use Rattle.demands.specs.Histories.{Call, gets, Class, Event, doing, after, answers, wrote, own}
-use Rattle.demands.specs.Sharing.{group, order, Sound, Different, dealtPoint, dealtShare}
+use Rattle.demands.specs.Terms.Histories.{Call, gets, commanded, doing, after, answers, wrote, Class, own, Event}
+use Rattle.demands.specs.Terms.Dealing.{group, order, Sound, dealtPoint, dealtShare, Different}
 use Rattle.demands.specs.Sharing as Sharing
-use Rattle.demands.specs.Lives.{checked, said, shareSaid, eOf, rOf, keptFor, lowestFor, readiesSent, howMany, isEcho}
+use Rattle.demands.specs.Terms.Lives.{checked, said, shareSaid, eOf, rOf, keptFor, lowestFor, readiesSent, howMany, isEcho}
 use Rattle.demands.specs.Lives as Lives
-use Rattle.demands.specs.Completeness.{answered}
+use Rattle.demands.specs.Terms.Lives.{checked, said, shareSaid, eOf, rOf, keptFor, lowestFor, isEcho, howMany, readiesSent, answerTo}
 use Rattle.demands.specs.Completeness as Completeness
-use Rattle.demands.specs.SheetOpens.{Opens, numbers, matrix, says, verified, secret}
+use Rattle.demands.specs.Terms.Sheet.{numbers, matrix, says, verified, secret, Opens}
 use Rattle.demands.specs.SheetOpens as SheetOpens
-use Rattle.demands.specs.Matching.{Few, matching}
+use Rattle.demands.specs.Terms.Secrets.{Few, matching}
 use Rattle.demands.specs.Matching as Matching
-use Rattle.demands.specs.Hiding.{Alike, played, Uncommanded}
+use Rattle.demands.specs.Terms.Secrets.{Few, matching, played, Uncommanded, Alike}
 use Rattle.demands.specs.Hiding as Hiding
 
 -- ==== DEMAND 2
@@ -71,16 +71,16 @@ module _ (u : SetUp) (i j : ℕ) (taken : setUp (own u i) .answer .no ≡ 0) (ta
     (cs cs′ : List Call) (c : Call) (lent : ℕ) (long : 2048 ≤ lent) where
   -- "an honest deal's sends pass the polynomial check at each box,
   pub sends-are-accepted : doing (after (own u i) cs) c .outcome .answer .sent ≡ Send → heardFor (after (own u j) cs′) 1 (i - 1) ≡ false
-      → answered u i j taken taken′ cs cs′ c lent long ≡ 0
+      → answerTo u i j cs cs′ c lent ≡ 0
   sends-are-accepted = Completeness.send-accepted u i j taken taken′ cs cs′ c lent long
 
   -- the echoes and readies of boxes that keep the rules pass the point check,
   pub echoes-are-accepted : doing (after (own u i) cs) c .outcome .answer .sent ≡ Echo → heardFor (after (own u j) cs′) 2 (i - 1) ≡ false
-      → answered u i j taken taken′ cs cs′ c lent long ≡ 0
+      → answerTo u i j cs cs′ c lent ≡ 0
   echoes-are-accepted = Completeness.echo-accepted u i j taken taken′ cs cs′ c lent long
 
   pub readies-are-accepted : doing (after (own u i) cs) c .outcome .answer .sent ≡ Ready → heardFor (after (own u j) cs′) 3 (i - 1) ≡ false
-      → answered u i j taken taken′ cs cs′ c lent long ≡ 0
+      → answerTo u i j cs cs′ c lent ≡ 0
   readies-are-accepted = Completeness.ready-accepted u i j taken taken′ cs cs′ c lent long
 
   -- their shares the share check": at a box that completed with the same matrix, was commanded and has not recovered
@@ -89,7 +89,7 @@ module _ (u : SetUp) (i j : ℕ) (taken : setUp (own u i) .answer .no ≡ 0) (ta
       → sameMatrix (u .k) (matrixOf (slotAt (after (own u i) cs) s)) (matrixOf (slotAt (after (own u j) cs′) s′)) ≡ true
       → after (own u j) cs′ .progress .commanded ≡ true → after (own u j) cs′ .recovered .kept ≡ Absent
       → heardFor (after (own u j) cs′) 4 (i - 1) ≡ false
-      → answered u i j taken taken′ cs cs′ c lent long ≡ 0
+      → answerTo u i j cs cs′ c lent ≡ 0
   shares-are-accepted = Completeness.share-accepted u i j taken taken′ cs cs′ c lent long
 
 -- "where all points used came from such messages, the completed share is f(i, 0), f'(i, 0)": the k lowest points held when ready

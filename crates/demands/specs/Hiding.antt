@@ -22,7 +22,7 @@ pub mod TwoLives
 use mathlib.Core.Path.{_≡_, refl, sym, ap, ap₂, _∙_, subst}
 use mathlib.Core.Bool.{Bool, true, false, not}
 use mathlib.Core.Logic.{inl, inr}
-use mathlib.Core.List.{List, [], _∷_, _++_, map}
+use mathlib.Core.List.{List, [], _∷_, _++_}
 use Prim.Native.Nat.{ℕ, zero, suc, _<_}
 use lib.Dec.{eqb}
 use borrow.Author.Tests.{eqb-true, not-true}
@@ -32,9 +32,9 @@ use Rattle.rules.specs.declared.SetUp.{SetUp}
 use Rattle.rules.specs.Numbers.{groupKeeps, isBox, numbersKeep}
 use Rattle.rules.specs.Dealing.{coinsKeep}
 use Rattle.rules.specs.Record.{slotAt, matrixOf, countE, countR}
-use Rattle.demands.specs.Histories.{Class, Call, deals, gets, commanded, after, Event, deal-at, hand-on, forge, command-at, keeps, mayBreak, own, messageAt, handed, calls, recordOf, answers, seen}
-use Rattle.demands.specs.Sharing.{order}
-use Rattle.demands.specs.Matching.{Few, matching}
+use Rattle.demands.specs.Terms.Histories.{Call, deals, gets, commanded, after, Class, keeps, mayBreak, own, Event, deal-at, hand-on, forge, command-at, messageAt, handed, calls, recordOf, seen}
+use Rattle.demands.specs.Terms.Dealing.{group, order}
+use Rattle.demands.specs.Terms.Secrets.{Few, matching, dealing, played, Uncommanded, Alike, Strategy, scriptBy}
 use Moves.{Twice, numbers, inSet, coins′, movedSlot, slot-moved}
 use Hypotheses.{Given, zed-on-set}
 use SentTwice.{set-bytes}
@@ -44,21 +44,7 @@ use TwoLives.{unmarked-before, Both, both-new, both-deals, both-refused, both-ge
 
 -- ---- one script for two deals
 
--- the script, where the dealer deals this secret with these coins; a deal of coins that get 14 stays as it is
-abbrev pub dealing : SetUp → ℕ → List ℕ → Event → Event
-dealing u secret coins (deal-at i s cs lent) = deal-at i (pick (coinsKeep u s cs) secret s) (pick (coinsKeep u s cs) coins cs) lent
-dealing u secret coins (hand-on from to place lent) = hand-on from to place lent
-dealing u secret coins (forge from to bytes lent) = forge from to bytes lent
-dealing u secret coins (command-at i lent) = command-at i lent
-
-unfoldable pub played : SetUp → ℕ → List ℕ → List Event → List Event
-played u secret coins script = map (dealing u secret coins) script
-
 -- ---- no recovery has been commanded
-
--- no box that keeps the rules has its mark; a command that was refused left none
-abbrev pub Uncommanded : Class → List Event → Type 0
-Uncommanded c es = (i : ℕ) → keeps c i ≡ true → recordOf c es i .progress .commanded ≡ false
 
 -- nor had one before the last event
 earlier : (c : Class) (e : Event) (es : List Event) → Uncommanded c (e ∷ es) → Uncommanded c es
@@ -89,19 +75,6 @@ earlier c e es h i k = go e (h i k)
     go (command-at at lent) = pick-either Before (eqb at i and keeps c i) _ _ (λ e. one (commanded lent)) (λ e m. m)
 
 -- ---- two histories that look the same
-
--- two histories look the same to the set, and to whoever sees what the other boxes answer
-pub record Alike (c : Class) (es es′ : List Event) : Type 0 where
-  -- every byte delivered to the set
-  pub bytes : seen c es ≡ seen c es′
-  -- every answer of the others, whole: its number, what was sent, how many bytes, whether the box completed
-  pub told : (i : ℕ) → keeps c i ≡ true → answers (own (c .numbers) i) (calls c es i) ≡ answers (own (c .numbers) i) (calls c es′ i)
-  -- their matrices and counts
-  pub matrix : (i s : ℕ) → keeps c i ≡ true → s < 20 → matrixOf (slotAt (recordOf c es i) s) ≡ matrixOf (slotAt (recordOf c es′ i) s)
-  pub e : (i s : ℕ) → keeps c i ≡ true → s < 20 → countE (slotAt (recordOf c es i) s) ≡ countE (slotAt (recordOf c es′ i) s)
-  pub r : (i s : ℕ) → keeps c i ≡ true → s < 20 → countR (slotAt (recordOf c es i) s) ≡ countR (slotAt (recordOf c es′ i) s)
-  -- and the place of the matrix that they completed with
-  pub completed : (i : ℕ) → keeps c i ≡ true → recordOf c es i .progress .completion ≡ recordOf c es′ i .progress .completion
 
 -- ---- the two runs, box by box
 
@@ -234,16 +207,6 @@ hides c group numbers few dealer s s′ low low′ coins keep script u =
     script u
 
 -- ---- a set that answers to what it has seen
-
--- what happens next, by how much has happened and what the set has seen
-abbrev pub Strategy : Type 0
-Strategy = ℕ → List (List ℕ) → Event
-
--- the script that it makes in a run of so many events
-unfoldable pub scriptBy : Class → Strategy → ℕ → List ℕ → ℕ → List Event
-scriptBy c strategy secret coins zero = []
-scriptBy c strategy secret coins (suc n) =
-    strategy n (seen c (played (c .numbers) secret coins (scriptBy c strategy secret coins n))) ∷ scriptBy c strategy secret coins n
 
 -- it sees the same in both runs, so it makes the same script, and both runs look the same
 pub hides-adaptively : (c : Class) → groupKeeps (c .numbers) ≡ true → numbersKeep (own (c .numbers) (c .numbers .d)) ≡ true

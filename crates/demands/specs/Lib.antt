@@ -3,7 +3,7 @@
 -- one of any make; what boxes that keep the rules send is accepted; the recovery sheet; the map of the coins; two secrets look the same. `Lives`,
 -- `Completeness` and `Hiding` have their modules in a folder of the same name, and say there in which order.
 pub mod Demands
-pub mod Histories
+pub mod Terms
 pub mod Own
 pub mod MessageTo
 pub mod Sharing

@@ -4,7 +4,6 @@
 -- messages (`Stepped`, `Took`); any call taken apart (`Turns`, `Deliveries`), and seen from one matrix (`Seen`); a life from its beginning (`Born`), and by induction over it each topic (`Counts`, `Points`, `Readies`, `Once`,
 -- `Recovered`). Here: the statements.
 -- Assumes nothing.
-pub mod Terms
 pub mod Slots
 pub mod Replaced
 pub mod Stepped
@@ -49,9 +48,10 @@ use Rattle.rules.specs.Steps.{points, sharePoints, pairFrom, echoFour, recovere
 use Rattle.rules.specs.Answers.{setUp}
 use Rattle.rules.specs.Laws.Shape.{Shaped}
 use Rattle.rules.specs.Laws.Sound.{facts-sound}
-use Rattle.demands.specs.Histories.{Call, gets, doing, after, answers, wrote}
-use Rattle.demands.specs.Sharing.{group, order, size}
-unfoldable pub use Terms.*
+use Rattle.demands.specs.Terms.Histories.{Call, gets, doing, after, answers, wrote}
+use Rattle.demands.specs.Terms.Dealing.{group, order}
+use Rattle.demands.specs.Sharing.{size}
+use Rattle.demands.specs.Terms.Lives.{checked, said, shareSaid, eOf, rOf, keptFor, lowestFor, isEcho, howMany, readiesSent}
 use Slots.{slotOf, r-of, kept-of, slot-used, slot-there}
 use Deliveries.{Echoed, echo-exact}
 use Born.{good, own-setup, numbers-keep, facts-at}

@@ -8,8 +8,8 @@
 use mathlib.Core.Path.{_≡_, refl, sym, ap, ap₂, _∙_}
 use mathlib.Core.Bool.{Bool, true, false}
 use mathlib.Core.Logic.{_≢_, ⊎-elim}
-use mathlib.Core.List.{List, [], _∷_}
-use Prim.Native.Nat.{ℕ, zero, suc, _+_, _*_, _-_, _/_, _%_, _^_, _<_, _≤_}
+use mathlib.Core.List.{List, _∷_}
+use Prim.Native.Nat.{ℕ, zero, suc, _+_, _*_, _-_, _%_, _^_, _<_, _≤_}
 use native.Mathlib.Nat.{zero-mul, mul-one, mul-comm, zero-add, add-zero, add-assoc, zero-mod, mod-lt, mod-eq-of-lt, mod-add-mod, add-mod-mod, pow-zero, pow-suc}
 use native.Mathlib.Numerals.{add-one}
 use native.Mathlib.Omega.{arith}
@@ -19,7 +19,7 @@ use lib.Seq.{ext-getD}
 use borrow.Author.Tests.{lt-ltb, le-ltb, eq-eqb}
 use Rattle.folds.specs.Tests.{pick, pick-true, pick-false, decide, and-intro}
 use Rattle.folds.specs.Below.{countBelow, sumBelow, prodBelow, sumBelow-same, allBelow-all}
-use Rattle.folds.specs.Runs.{gather, length-singles, getD-singles}
+use Rattle.folds.specs.Runs.{length-singles, getD-singles}
 use Rattle.algebra.specs.Residues.{mod-mul-mod, mul-mod-mod, add-cong, mul-cong, add-zero-mod, mul-zero-mod, inverse, one-less, multiples-zero, difference-reaches, difference-back, row-of, column-of}
 use Rattle.algebra.specs.Sums.{sum-add, sum-scale, sum-first, sum-cong, sum-single, prod-none, sum-moves}
 use Rattle.algebra.specs.Polynomials.{sum-nought}
@@ -32,48 +32,15 @@ use Rattle.rules.specs.Laws.Numbers.{group-sizes}
 use Rattle.rules.specs.Laws.Matrices.{matrix-same, row-within}
 use Rattle.rules.specs.Laws.Generator.{logarithm-some, logarithm-below, committed-moves}
 use Rattle.rules.specs.Laws.Dealing.{fOf-at, f′Of-at, alongY-at, alongX-at, coins-count, coin-low}
-use Rattle.demands.specs.Sharing.{group, order, Sound, dealtMatrix, dealtTo, rule, size}
-
--- ---- the polynomial z
-
--- z(x) is the product of 1 - x / m over the boxes m of the set: its coefficient of x^l, over boxes 1 to n
-unfoldable pub vanishing : ℕ → (ℕ → Bool) → ℕ → ℕ → ℕ
-vanishing q A zero zero = 1
-vanishing q A zero (suc l) = 0
-vanishing q A (suc n) zero = vanishing q A n zero
-vanishing q A (suc n) (suc l) =
-    pick (A (suc n)) ((vanishing q A n (suc l) + (q - inverse q (suc n)) * vanishing q A n l) % q) (vanishing q A n (suc l))
-
-module _ (u : SetUp) (A : ℕ → Bool) where
-  abbrev pub z : ℕ → ℕ
-  z l = vanishing (order u) A (u .n) l
-
-  -- z(x)
-  unfoldable pub zAt : ℕ → ℕ
-  zAt x = sumBelow (u .k) (λ l. z l * x ^ l) % order u
-
--- ---- the map
-
--- δ, and - δ / λ
-abbrev pub difference : SetUp → ℕ → ℕ → ℕ
-difference u s s′ = (s′ + (order u - s)) % order u
-
-unfoldable pub difference′ : SetUp → ℕ → ℕ → ℕ
-difference′ u s s′ = difference u s s′ * (order u - inverse (order u) (logarithm (group u))) % order u
-
--- number v of the secret and the coins behind it moves by this much: the first k² are f's coefficients, row by row, then f''s
-unfoldable pub moved : SetUp → (ℕ → Bool) → ℕ → ℕ → ℕ → ℕ
-moved u A s s′ v =
-    pick (ltb v (u .k * u .k))
-    (difference u s s′ * (z u A (v / u .k) * z u A (v % u .k)))
-    (difference′ u s s′ * (z u A ((v - u .k * u .k) / u .k) * z u A ((v - u .k * u .k) % u .k)))
-
--- the coins for the secret s′ that match these for s
-unfoldable pub matching : SetUp → (ℕ → Bool) → ℕ → ℕ → List ℕ → List ℕ
-matching u A s s′ coins =
-    gather (2 * (u .k * u .k) - 1) (λ c. (getD coins c 0 + moved u A s s′ (c + 1)) % order u ∷ [])
+use Rattle.demands.specs.Terms.Dealing.{group, order, Sound, dealtMatrix, dealtTo, none}
+use Rattle.demands.specs.Sharing.{rule, size}
+use Rattle.demands.specs.Terms.Secrets.{Few, vanishing, z, difference, difference′, moved, matching}
 
 -- ---- why z is so
+
+-- z(x)
+unfoldable pub zAt : SetUp → (ℕ → Bool) → ℕ → ℕ
+zAt u A x = sumBelow (u .k) (λ l. z u A l * x ^ l) % order u
 
 module _ (q : ℕ) (A : ℕ → Bool) where
   -- how many of the set are boxes 1 to n
@@ -241,10 +208,6 @@ module _ (u : SetUp) (A : ℕ → Bool) (small : u .k ≤ 8) (f f* : List (List 
       ∙ ap (λ t. (t + d * (zAt u A j * z u A l)) % order u) (sym (alongX-at (u .k) small (order u) f j l hl))
 
 -- ---- what it keeps
-
--- a set of at most k - 1 of the boxes 1 to n
-abbrev pub Few : SetUp → (ℕ → Bool) → Type 0
-Few u A = countBelow (u .n) (λ m. A (m + 1)) < u .k
 
 module _ (u : SetUp) (sound : Sound u) (A : ℕ → Bool) (few : Few u A) (s s′ : ℕ) (low : s < order u) (low′ : s′ < order u) where
   pub z-nought : zAt u A 0 ≡ 1

@@ -9,7 +9,7 @@ use lib.ListN.{length, take, drop}
 use Rattle.rules.specs.declared.SetUp.{SetUp}
 use Rattle.rules.specs.Messages.{Message, tagOf, bytesOf, wholeLength, toEach}
 use Rattle.rules.specs.Laws.Lengths.{length-toEach, piece-toEach}
-use Rattle.demands.specs.Histories.{messageTo}
+use Rattle.demands.specs.Terms.Histories.{messageTo}
 
 pub message-to : (u : SetUp) (f : ℕ → Message) (tag : ℕ) → ((j : ℕ) → tagOf (f j) ≡ tag) → (j : ℕ) → 1 ≤ j → j ≤ u .n
     → messageTo (u .n) (toEach u f) j ≡ bytesOf u (f j)

@@ -15,7 +15,7 @@ use Rattle.rules.specs.Messages.{Message, send, echo, ready, recovery, twoBytes
 use Rattle.rules.specs.Record.{sameMatrix}
 use Rattle.rules.specs.Answers.{exponentsKeep}
 use Rattle.rules.specs.Laws.Sound.{agree-at}
-use Rattle.demands.specs.Histories.{own}
+use Rattle.demands.specs.Terms.Histories.{own}
 
 pub own-bytes : (u : SetUp) (i : ℕ) (m : Message) → bytesOf (own u i) m ≡ bytesOf u m
 unfolding bytesOf bodyOf polynomialBytes

@@ -9,7 +9,7 @@ use mathlib.Core.List.{List, _++_}
 use Prim.Native.Nat.{ℕ, _+_, _<_, _≤_}
 use native.Mathlib.Decide.{decLt}
 use native.Mathlib.Omega.{arith}
-use lib.ListN.{length, replicate, take, getD-replicate}
+use lib.ListN.{replicate, take, getD-replicate}
 use borrow.Author.Tests.{le-ltb}
 use Rattle.folds.specs.Tests.{pick, true≢false}
 use Rattle.folds.specs.Stores.{getD-stores, getD-stores-behind}
@@ -19,16 +19,16 @@ use Rattle.rules.specs.declared.Keep.{Keep}
 use Rattle.rules.specs.declared.Kept.{Kept}
 use Rattle.rules.specs.declared.Kept.the-variants.{Absent, There}
 use Rattle.rules.specs.declared.Pair.{Pair}
-use Rattle.rules.specs.declared.SetUp.{SetUp}
 use Rattle.rules.specs.declared.Verdict.the-variants.{Verified, Refused}
-use Rattle.rules.specs.Numbers.{groupOf, groupKeeps, sizesKeep}
+use Rattle.rules.specs.Numbers.{groupOf}
 use Rattle.rules.specs.Matrices.{entry}
-use Rattle.rules.specs.Dealing.{committed, matrixPasses, pairBelow, shareCheck}
+use Rattle.rules.specs.Dealing.{committed, pairBelow, shareCheck}
 use Rattle.rules.specs.Record.{nothing, shareAt, isThere}
-use Rattle.rules.specs.Steps.{sharePoints, recoveredFrom}
-use Rattle.rules.specs.Sheet.{sheetSetUp, matrixPlace, sheetMatrix, boxesPlace, sheetShares, firstLineKeeps, restKeeps, verdict, isVerified, verifiedShares, boxLines, secretLine, lastLine, sheetLines, bodyPrinted, printed}
+use Rattle.rules.specs.Steps.{sharePoints}
+use Rattle.rules.specs.Sheet.{verdict, isVerified, verifiedShares, boxLines, secretLine, lastLine, sheetLines, bodyPrinted, printed}
 use Rattle.demands.specs.Sharing.{shares-open}
 use Rattle.demands.specs.Lives.Points.{lowest-differ}
+use Rattle.demands.specs.Terms.Sheet.{numbers, matrix, says, verified, secret, Opens}
 
 -- ---- what is verified
 
@@ -47,76 +47,49 @@ module _ (G : Group) (k : ℕ) (C : List (List Element)) (m : ℕ) where
       go true false h e = absurd (true≢false (sym (ap isThere e)))
       go false b h e = absurd (true≢false (sym (ap isThere e)))
 
--- ---- a sheet that prints a secret
-
 module _ (b : List ℕ) where
-  abbrev pub numbers : SetUp
-  numbers = sheetSetUp b
-
-  abbrev pub matrix : List (List Element)
-  matrix = sheetMatrix b (matrixPlace b) (numbers .k)
-
-  -- what boxes 1 to n say, and of that what is verified
-  abbrev pub says : List Keep
-  says = sheetShares b (boxesPlace b (numbers .k)) (numbers .n)
-
-  abbrev pub verified : List Keep
-  verified = verifiedShares (groupOf (numbers .group)) (numbers .k) matrix (numbers .n) says
-
-  -- the pair of the k lowest verified boxes
-  abbrev pub secret : Pair
-  secret = recoveredFrom (groupOf (numbers .group) .q) (take (numbers .k) (sharePoints verified))
-
-  -- every test passes, and at least k boxes are verified
-  pub record Opens : Type 0 where
-    pub first : firstLineKeeps b ≡ true
-    pub group : groupKeeps numbers ≡ true
-    pub sizes : sizesKeep (numbers .n) (numbers .t) (numbers .k) ≡ true
-    pub rest : restKeeps b (numbers .n) (numbers .k) ≡ true
-    pub passes : matrixPasses (groupOf (numbers .group)) (numbers .k) matrix ≡ true
-    pub enough : numbers .k ≤ length (sharePoints verified)
-
   -- ---- the statements
 
   -- such a sheet prints a line for each box and the secret's
-  pub sheet-prints : Opens → printed b ≡ boxLines (groupOf (numbers .group)) (numbers .k) matrix (numbers .n) says ++ secretLine secret (take (numbers .k) (sharePoints verified))
+  pub sheet-prints : Opens b → printed b ≡ boxLines (groupOf (numbers b .group)) (numbers b .k) (matrix b) (numbers b .n) (says b)
+      ++ secretLine (secret b) (take (numbers b .k) (sharePoints (verified b)))
   unfolding printed bodyPrinted sheetLines lastLine
   sheet-prints o = rw (o .first, o .group, o .sizes, o .rest, o .passes, le-ltb _ _ (o .enough))
 
   -- what is verified of a box of the sheet, and of one above n
-  verified-at : (m : ℕ) → m < 10 → m < numbers .n
-      → shareAt verified m ≡ verifiedOf (groupOf (numbers .group)) (numbers .k) matrix (m + 1) (shareAt says m)
+  verified-at : (m : ℕ) → m < 10 → m < numbers b .n
+      → shareAt (verified b) m ≡ verifiedOf (groupOf (numbers b .group)) (numbers b .k) (matrix b) (m + 1) (shareAt (says b) m)
   unfolding verifiedShares
-  verified-at m l h = ap (λ (v : Keep). v .kept) (getD-stores _ (replicate 10 nothing) (numbers .n) m nothing h l)
+  verified-at m l h = ap (λ (v : Keep). v .kept) (getD-stores _ (replicate 10 nothing) (numbers b .n) m nothing h l)
 
-  verified-above : (m : ℕ) → m < 10 → numbers .n ≤ m → shareAt verified m ≡ Absent
+  verified-above : (m : ℕ) → m < 10 → numbers b .n ≤ m → shareAt (verified b) m ≡ Absent
   unfolding verifiedShares
   verified-above m l h =
       ap (λ (v : Keep). v .kept)
-      (getD-stores-behind _ (replicate 10 nothing) (numbers .n) m nothing h ∙ getD-replicate 10 m nothing nothing l)
+      (getD-stores-behind _ (replicate 10 nothing) (numbers b .n) m nothing h ∙ getD-replicate 10 m nothing nothing l)
 
   -- a box is verified only by a pair of its own that passes the share check: a silent box adds no point
-  pub sheet-verified : (m : ℕ) (p : Pair) → m < 10 → shareAt verified m ≡ There p
-      → (shareAt says m ≡ There p) × (shareCheck (groupOf (numbers .group)) (numbers .k) matrix (m + 1) p ≡ true)
-  sheet-verified m p l e = go (decLt m (numbers .n))
+  pub sheet-verified : (m : ℕ) (p : Pair) → m < 10 → shareAt (verified b) m ≡ There p
+      → (shareAt (says b) m ≡ There p) × (shareCheck (groupOf (numbers b .group)) (numbers b .k) (matrix b) (m + 1) p ≡ true)
+  sheet-verified m p l e = go (decLt m (numbers b .n))
     where
-      go : Dec (m < numbers .n)
-          → (shareAt says m ≡ There p) × (shareCheck (groupOf (numbers .group)) (numbers .k) matrix (m + 1) p ≡ true)
+      go : Dec (m < numbers b .n)
+          → (shareAt (says b) m ≡ There p) × (shareCheck (groupOf (numbers b .group)) (numbers b .k) (matrix b) (m + 1) p ≡ true)
       go (yes h) =
-          verified-passes (groupOf (numbers .group)) (numbers .k) matrix (m + 1) (shareAt says m) p (sym (verified-at m l h) ∙ e)
+          verified-passes (groupOf (numbers b .group)) (numbers b .k) (matrix b) (m + 1) (shareAt (says b) m) p (sym (verified-at m l h) ∙ e)
       go (no h) = absurd (true≢false (sym (ap isThere e) ∙ ap isThere (verified-above m l (omega arith))))
 
-  pub sheet-silent : (m : ℕ) → m < 10 → shareAt says m ≡ Absent → shareAt verified m ≡ Absent
-  sheet-silent m l e = go (decLt m (numbers .n))
+  pub sheet-silent : (m : ℕ) → m < 10 → shareAt (says b) m ≡ Absent → shareAt (verified b) m ≡ Absent
+  sheet-silent m l e = go (decLt m (numbers b .n))
     where
-      go : Dec (m < numbers .n) → shareAt verified m ≡ Absent
-      go (yes h) = verified-at m l h ∙ ap (verifiedOf (groupOf (numbers .group)) (numbers .k) matrix (m + 1)) e
+      go : Dec (m < numbers b .n) → shareAt (verified b) m ≡ Absent
+      go (yes h) = verified-at m l h ∙ ap (verifiedOf (groupOf (numbers b .group)) (numbers b .k) (matrix b) (m + 1)) e
       go (no h) = verified-above m l (omega arith)
 
   -- the pair that it prints opens the first entry of its matrix
-  pub sheet-opens : Opens → committed (groupOf (numbers .group)) (secret .first .0) (secret .second .0) ≡ entry matrix 0 0
+  pub sheet-opens : Opens b → committed (groupOf (numbers b .group)) (secret b .first .0) (secret b .second .0) ≡ entry (matrix b) 0 0
   sheet-opens o =
-      shares-open numbers (record { group-keeps = o .group; sizes-keep = o .sizes }) matrix (o .passes)
-      (take (numbers .k) (sharePoints verified))
-      (lowest-differ numbers verified (λ m p. shareCheck (groupOf (numbers .group)) (numbers .k) matrix m p ≡ true)
+      shares-open (numbers b) (record { group-keeps = o .group; sizes-keep = o .sizes }) (matrix b) (o .passes)
+      (take (numbers b .k) (sharePoints (verified b)))
+      (lowest-differ (numbers b) (verified b) (λ m p. shareCheck (groupOf (numbers b .group)) (numbers b .k) (matrix b) m p ≡ true)
       (λ m l h. ap isThere (verified-above m l h)) (λ m p l e. sheet-verified m p l e .1) (o .enough))

@@ -4,9 +4,9 @@
 -- In order: its life; calls as code is given them; its life is that of the rules; the statement.
 -- Assumes nothing.
 use mathlib.Core.Path.{_≡_, refl, sym, ap, ap₂, _∙_}
-use mathlib.Core.Bool.{Bool, true, false}
+use mathlib.Core.Bool.{true}
 use mathlib.Core.List.{List, [], _∷_}
-use Prim.Native.Nat.{ℕ, _+_, _<_}
+use Prim.Native.Nat.{ℕ, _+_}
 use native.Mathlib.Omega.{arith}
 use lib.Dec.{ltb}
 use lib.ListN.{length, length-replicate, getD-replicate, replicate}
@@ -15,40 +15,12 @@ use Rattle.folds.specs.Below.{allBelow-all, countBelow, countBelow-same}
 use Rattle.rules.specs.declared.Element.{Element}
 use Rattle.rules.specs.declared.Record.{Record}
 use Rattle.rules.specs.declared.SetUp.{SetUp}
-use Rattle.rules.specs.Answers.{Done, setUp, deal, recover}
+use Rattle.rules.specs.Answers.{Done, setUp}
 use Rattle.rules.specs.UselessBoxes.{Station, areBytes, Keeps}
-use Rattle.demands.specs.Histories.{Call, deals, gets, commanded, doing, after}
-use Rattle.demands.specs.Lives.{eOf, rOf, checksBy, checksNow, checked, life-sound, e-counts, r-counts}
-
--- ---- its life
-
-module _ (station : Station) where
-  unfoldable pub doingBy : Record → Call → Done
-  doingBy x (deals secret coins lent) = deal x secret coins (replicate lent 0)
-  doingBy x (gets sender bytes lent) = station x sender bytes (replicate lent 0)
-  doingBy x (commanded lent) = recover x (replicate lent 0)
-
-  unfoldable pub afterBy : SetUp → List Call → Record
-  afterBy u [] = setUp u .next
-  afterBy u (c ∷ cs) = doingBy (afterBy u cs) c .outcome .next
-
-  -- what it has accepted
-  unfoldable pub checkedBy : SetUp → List Call → ℕ → ℕ → List (List Element) → Bool
-  checkedBy u [] tag m C = false
-  checkedBy u (c ∷ cs) tag m C =
-      checksBy (doingBy (afterBy u cs) c .outcome .answer .no) (afterBy u cs) c tag m C or checkedBy u cs tag m C
-
--- ---- calls as code is given them
-
--- a sender of 32 bits, and bytes
-abbrev pub Sayable : Call → Type 0
-Sayable (deals secret coins lent) = Unit {0}
-Sayable (gets sender bytes lent) = (sender < 4294967296) × (areBytes bytes ≡ true)
-Sayable (commanded lent) = Unit {0}
-
-unfoldable pub AllSayable : List Call → Type 0
-AllSayable [] = Unit {0}
-AllSayable (c ∷ cs) = Sayable c × AllSayable cs
+use Rattle.demands.specs.Terms.Histories.{Call, deals, gets, commanded, doing, after, keeps}
+use Rattle.demands.specs.Terms.Lives.{checksBy, checksNow, checked, eOf, rOf}
+use Rattle.demands.specs.Lives.{life-sound, e-counts, r-counts}
+use Rattle.demands.specs.Terms.Stations.{doingBy, afterBy, checkedBy, Sayable, AllSayable}
 
 zeros-are-bytes : (n : ℕ) → areBytes (replicate n 0) ≡ true
 unfolding areBytes

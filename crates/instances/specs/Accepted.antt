@@ -22,9 +22,10 @@ use Rattle.rules.specs.Record.{slotAt, matrixOf, sameMatrix, heardFor, zeroReco
 use Rattle.rules.specs.Answers.{Done, setUp}
 use Rattle.rules.specs.Computed.{computed}
 use Rattle.rules.specs.HandSums.{class, coins}
-use Rattle.demands.specs.Histories.{Call, deals, gets, commanded, doing, after, wrote, messageTo, own}
-use Rattle.demands.specs.Sharing.{dealtTo, dealtPoint}
-use Rattle.demands.specs.Completeness.{answered, send-accepted, echo-accepted, ready-accepted, share-accepted}
+use Rattle.demands.specs.Terms.Histories.{Call, deals, gets, commanded, doing, after, wrote, messageTo, own}
+use Rattle.demands.specs.Terms.Dealing.{dealtTo, dealtPoint}
+use Rattle.demands.specs.Terms.Lives.{answerTo}
+use Rattle.demands.specs.Completeness.{send-accepted, echo-accepted, ready-accepted, share-accepted}
 use Rattle.instances.specs.Replay.{Past, takes, life, came-to, life-lived}
 use Rattle.instances.specs.Life.{D}
 
@@ -199,14 +200,14 @@ sends =
 -- ---- what the statements of Completeness say of it
 
 -- the answer of box j to what a call of box i sends it
-abbrev answer : (i j : ℕ) → setUp (own class i) .answer .no ≡ 0 → setUp (own class j) .answer .no ≡ 0 → List Call → Call → List Call → ℕ
-answer i j t t′ cs c cs′ = answered class i j t t′ cs cs′ c 2048 (omega arith)
+abbrev answer : ℕ → ℕ → List Call → Call → List Call → ℕ
+answer i j cs c cs′ = answerTo class i j cs cs′ c 2048
 
 pub record Accepted : Type 0 where
-  pub send : answer 1 2 (taken .0) (taken .1) dealer (deals 5 coins 2048) early ≡ 0
-  pub echo : answer 2 3 (taken .1) (taken .2) early (gets-send 2) begun ≡ 0
-  pub ready : answer 2 3 (taken .1) (taken .2) echoed (gets-echo 4 2) readied ≡ 0
-  pub share : answer 2 3 (taken .1) (taken .2) completed (commanded 2048) recovering ≡ 0
+  pub send : answer 1 2 dealer (deals 5 coins 2048) early ≡ 0
+  pub echo : answer 2 3 early (gets-send 2) begun ≡ 0
+  pub ready : answer 2 3 echoed (gets-echo 4 2) readied ≡ 0
+  pub share : answer 2 3 completed (commanded 2048) recovering ≡ 0
 
 pub accepted : Accepted
 accepted =

@@ -21,8 +21,9 @@ use Rattle.rules.specs.Steps.{Said, recoveredFrom}
 use Rattle.rules.specs.Answers.{noPair}
 use Rattle.rules.specs.Computed.{computed}
 use Rattle.rules.specs.HandSums.{class, coins, pair, point}
-use Rattle.demands.specs.Sharing.{group, order, Sound, dealtShare, dealtPoint, Different, shares-give, shares-open}
-use Rattle.demands.specs.Lives.Terms.{keptFor}
+use Rattle.demands.specs.Terms.Dealing.{group, order, Sound, dealtShare, dealtPoint, Different}
+use Rattle.demands.specs.Sharing.{shares-give, shares-open}
+use Rattle.demands.specs.Terms.Lives.{keptFor}
 use Rattle.demands.specs.Completeness.{dealt-share-kept}
 use Rattle.instances.specs.Life.{D, before, moment, lowest, then, one-life}
 

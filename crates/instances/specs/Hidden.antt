@@ -24,10 +24,11 @@ use Rattle.rules.specs.Steps.{recoveredFrom}
 use Rattle.rules.specs.Computed.{computed}
 use Rattle.rules.specs.HandSums.{pair}
 use Rattle.rules.specs.Laws.Numbers.{is-box}
-use Rattle.demands.specs.Histories.{doing, messageTo, keeps, mayBreak, own, Event, recordOf, seen}
-use Rattle.demands.specs.Sharing.{order, dealtShare}
-use Rattle.demands.specs.Matching.{matching}
-use Rattle.demands.specs.Hiding.{played, Uncommanded, Alike, hides}
+use Rattle.demands.specs.Terms.Histories.{doing, messageTo, keeps, mayBreak, own, Event, recordOf, seen}
+use Rattle.demands.specs.Terms.Dealing.{order, dealtShare}
+use Rattle.demands.specs.Terms.Secrets.{matching}
+use Rattle.demands.specs.Terms.Secrets.{played, Uncommanded, Alike}
+use Rattle.demands.specs.Hiding.{hides}
 use Rattle.instances.specs.Replay.{
   Past,
   takes,

@@ -29,9 +29,9 @@ use Rattle.rules.specs.Steps.{Said, points, sharePoints, pairFrom, echoFour, re
 use Rattle.rules.specs.Answers.{setUp}
 use Rattle.rules.specs.Computed.{computed}
 use Rattle.rules.specs.HandSums.{class, coins, four, pair, C, dealt, point, share}
-use Rattle.demands.specs.Histories.{Call, deals, gets, commanded, doing, after, answers, wrote, sendings}
-use Rattle.demands.specs.Sharing.{group, order}
-use Rattle.demands.specs.Lives.Terms.{checksNow, checked, said, shareSaid, eOf, rOf, keptFor, isEcho, howMany, readiesSent}
+use Rattle.demands.specs.Terms.Histories.{Call, deals, gets, commanded, doing, after, answers, wrote, sendings}
+use Rattle.demands.specs.Terms.Dealing.{group, order}
+use Rattle.demands.specs.Terms.Lives.{checksNow, checked, said, shareSaid, eOf, rOf, keptFor, isEcho, howMany, readiesSent}
 use Rattle.demands.specs.Lives.{life-sound, e-counts, r-counts, places-say, shares-say, recovered-from, kept-when-ready, kept-then, kept-ever, kept-passes, completed-kept, report-opens, exact-echo}
 use Rattle.instances.specs.Replay.{Past, takes, life, came-to, life-lived, readiesAt, readies-sent}
 

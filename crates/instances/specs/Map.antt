@@ -17,18 +17,10 @@ use Rattle.rules.specs.Dealing.{fOf, f′Of, coinsKeep, polynomialsOf, fromCoin
 use Rattle.rules.specs.Computed.{computed}
 use Rattle.rules.specs.HandSums.{coins, C, dealt}
 use Rattle.rules.specs.Laws.Dealing.{alongY-at, alongX-at}
-use Rattle.demands.specs.Sharing.{order, Sound, dealtMatrix, dealtTo, size}
-use Rattle.demands.specs.Matching.{
-  vanishing,
-  difference,
-  difference′,
-  moved,
-  matching,
-  Few,
-  z-on-set,
-  matching-matrix,
-  matching-sends,
-}
+use Rattle.demands.specs.Terms.Dealing.{order, Sound, dealtMatrix, dealtTo}
+use Rattle.demands.specs.Sharing.{size}
+use Rattle.demands.specs.Terms.Secrets.{vanishing, difference, difference′, moved, matching, Few}
+use Rattle.demands.specs.Matching.{z-on-set, matching-matrix, matching-sends}
 
 -- ---- what a box of the set is sent
 

@@ -21,32 +21,8 @@ use Rattle.rules.specs.Numbers.{isBox}
 use Rattle.rules.specs.Record.{zeroRecord}
 use Rattle.rules.specs.Answers.{Done, setUp}
 use Rattle.folds.specs.Runs.{getD-singles}
-use Rattle.demands.specs.Histories.{
-  Call,
-  deals,
-  gets,
-  commanded,
-  doing,
-  after,
-  answers,
-  wrote,
-  sendings,
-  messageTo,
-  Class,
-  keeps,
-  mayBreak,
-  own,
-  Event,
-  deal-at,
-  hand-on,
-  forge,
-  command-at,
-  messageAt,
-  handed,
-  calls,
-  seen,
-}
-use Rattle.demands.specs.Lives.Terms.{isReady, takesNow, senderOf, readiesSent}
+use Rattle.demands.specs.Terms.Histories.{Call, deals, gets, commanded, doing, after, answers, wrote, sendings, messageTo, Class, keeps, mayBreak, own, Event, deal-at, hand-on, forge, command-at, messageAt, handed, calls, seen}
+use Rattle.demands.specs.Terms.Lives.{isReady, takesNow, senderOf, readiesSent}
 
 -- ---- one box
 

@@ -20,9 +20,9 @@ use Rattle.rules.specs.Dealing.{coinsKeep}
 use Rattle.rules.specs.Computed.{computed}
 use Rattle.rules.specs.HandSums.{sized, four}
 use Rattle.rules.specs.HandSums as HandSums
-use Rattle.demands.specs.Histories.{Class, Event, deal-at, hand-on, forge, command-at}
-use Rattle.demands.specs.Sharing.{order, dealtMatrix, dealtTo, dealtPoint}
-use Rattle.demands.specs.Matching.{vanishing, difference′, moved, matching, Few}
+use Rattle.demands.specs.Terms.Histories.{Class, Event, deal-at, hand-on, forge, command-at}
+use Rattle.demands.specs.Terms.Dealing.{order, dealtMatrix, dealtTo, dealtPoint}
+use Rattle.demands.specs.Terms.Secrets.{vanishing, difference′, moved, matching, Few}
 
 -- ---- the class
 

@@ -21,7 +21,8 @@ use Rattle.rules.specs.Sheet.{boxLines, secretLine, printed}
 use Rattle.rules.specs.Text.{text}
 use Rattle.rules.specs.Computed.{computed}
 use Rattle.rules.specs.HandSums.{pair}
-use Rattle.demands.specs.SheetOpens.{Opens, numbers, matrix, says, verified, secret, sheet-prints, sheet-opens, sheet-verified, sheet-silent}
+use Rattle.demands.specs.Terms.Sheet.{Opens, numbers, matrix, says, verified, secret}
+use Rattle.demands.specs.SheetOpens.{sheet-prints, sheet-opens, sheet-verified, sheet-silent}
 use Rattle.instances.specs.Life.{D}
 
 -- ---- the sheet

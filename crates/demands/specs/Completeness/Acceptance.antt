@@ -20,7 +20,7 @@ use Rattle.rules.specs.Laws.Table.{none}
 use Rattle.rules.specs.Laws.DemandOne.{deliver-number}
 use Rattle.rules.specs.Laws.Sound.{sound-facts}
 use Rattle.rules.specs.Laws.RoundTrip.{Fits, setup-fits, message-formed, message-ours, message-there, matrixPart, matrix-there}
-use Rattle.demands.specs.Histories.{gets, doing}
+use Rattle.demands.specs.Terms.Histories.{gets, doing}
 
 -- ---- what a message needs
 

@@ -15,7 +15,7 @@ use Rattle.rules.specs.Numbers.{isBox}
 use Rattle.rules.specs.Messages.{Message, send, echo, ready, recovery, tagOf, framed, bytesOf, tagIn, malformed, foreign, matrixIn, polynomialsIn, fourIn, pairIn, messageIn}
 use Rattle.rules.specs.Answers.{exponentsKeep}
 use Rattle.rules.specs.Laws.RoundTrip.{SetUpFits, message-formed, message-ours, message-there, matrixPart, matrix-there}
-use Rattle.demands.specs.Histories.{own, keeps}
+use Rattle.demands.specs.Terms.Histories.{own, keeps}
 use Rattle.demands.specs.Hiding.Moves.{Twice, numbers, inSet, dealt, zed, movedMessage}
 use Rattle.demands.specs.Hiding.Hypotheses.{Given, dealer-box, own-fits, zed-on-set}
 use Rattle.demands.specs.Hiding.Unseen.{four-still}

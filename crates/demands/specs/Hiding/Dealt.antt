@@ -25,9 +25,10 @@ use Rattle.rules.specs.Laws.Matrices.{row-same}
 use Rattle.rules.specs.Laws.RoundTrip.{PolynomialFits, PolynomialsFit}
 use Rattle.rules.specs.Laws.Ranges.{dealt-rooms}
 use Rattle.rules.specs.Laws.Passed.{deal-passed}
-use Rattle.demands.specs.Histories.{own}
-use Rattle.demands.specs.Sharing.{dealtTo, send-passes}
-use Rattle.demands.specs.Matching.{z}
+use Rattle.demands.specs.Terms.Histories.{own}
+use Rattle.demands.specs.Terms.Dealing.{dealtTo}
+use Rattle.demands.specs.Sharing.{send-passes}
+use Rattle.demands.specs.Terms.Secrets.{z}
 use Rattle.demands.specs.Lives.Commands.{deal-sends}
 use Rattle.demands.specs.Hiding.Moves.{Twice, numbers, inSet, q, coins′, dealt, zed, shifted, shifted′, movedBy, movedPolynomials, movedRecord}
 use Rattle.demands.specs.Hiding.Hypotheses.{Given, sound-numbers, size, coins-keep′, same-matrix, dealt-moves}

@@ -31,7 +31,7 @@ use Rattle.rules.specs.declared.Side.the-variants.{ByEcho, ByReady}
 use Rattle.rules.specs.Laws.Facts.{ear}
 use Rattle.rules.specs.Laws.RoundTrip.{by-tag, is-send, is-echo, is-ready}
 use Rattle.rules.specs.Laws.Passed.{Passed, rows-passed}
-use Rattle.demands.specs.Histories.{own}
+use Rattle.demands.specs.Terms.Histories.{own}
 use Rattle.demands.specs.Hiding.Moves.{Twice, numbers, inSet, dealt, zed, movedMessage, movedRecord, slot-moved, movedFour}
 use Rattle.demands.specs.Hiding.Hypotheses.{Given}
 use Rattle.demands.specs.Hiding.Unseen.{point-unseen, polynomials-unseen}

@@ -16,10 +16,12 @@ use Rattle.rules.specs.Dealing.{coinsKeep, committed}
 use Rattle.rules.specs.Answers.{setUp, setUpRows, outcomeOf, accepted, firstRow}
 use Rattle.rules.specs.Laws.Numbers.{Sizes, is-box}
 use Rattle.rules.specs.Laws.RoundTrip.{SetUpFits, setup-fits}
-use Rattle.demands.specs.Histories.{own}
+use Rattle.demands.specs.Terms.Histories.{own}
 use Rattle.demands.specs.Sharing
-use Rattle.demands.specs.Sharing.{group, Sound, dealtMatrix, dealtTo, rule, order-some}
-use Rattle.demands.specs.Matching.{Few, z, z-on-set, move-unseen, matching-keeps, matching-matrix, matching-sends}
+use Rattle.demands.specs.Terms.Dealing.{group, Sound, dealtMatrix, dealtTo}
+use Rattle.demands.specs.Sharing.{rule, order-some}
+use Rattle.demands.specs.Terms.Secrets.{Few, z}
+use Rattle.demands.specs.Matching.{z-on-set, move-unseen, matching-keeps, matching-matrix, matching-sends}
 use Rattle.demands.specs.Hiding.Moves.{Twice, numbers, inSet, q, coins′, dealt, zed, shifted, shifted′}
 
 -- ---- the hypotheses

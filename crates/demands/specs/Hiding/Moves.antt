@@ -29,9 +29,10 @@ use Rattle.rules.specs.Matrices.{row, coefficient, α, α′, β, β′}
 use Rattle.rules.specs.Messages.{Message, send, echo, ready, recovery}
 use Rattle.rules.specs.Record.{silent, noSlot, slotAt, placeAt}
 use Rattle.rules.specs.Steps.{Said, withSlots, heldAt, points}
-use Rattle.demands.specs.Histories.{Class}
-use Rattle.demands.specs.Sharing.{order, dealtMatrix}
-use Rattle.demands.specs.Matching.{z, zAt, difference, difference′, matching}
+use Rattle.demands.specs.Terms.Histories.{Class}
+use Rattle.demands.specs.Terms.Dealing.{order, dealtMatrix}
+use Rattle.demands.specs.Terms.Secrets.{z, difference, difference′, matching}
+use Rattle.demands.specs.Matching.{zAt}
 
 -- ---- two deals
 

@@ -15,7 +15,7 @@ use Rattle.rules.specs.Steps.{Step}
 use Rattle.rules.specs.Answers.{Refusal, Done, done, accepted, refused, answered, callRows, firstRow}
 use Rattle.rules.specs.Laws.DemandOne.{answered-accepted, answered-refused}
 use Rattle.rules.specs.Laws.Lengths.{take-written}
-use Rattle.demands.specs.Histories.{wrote}
+use Rattle.demands.specs.Terms.Histories.{wrote}
 use Rattle.demands.specs.Hiding.Moves.{Twice, movedRecord}
 use Rattle.demands.specs.Hiding.SentTwice.{Twin, twin-length}
 use Rattle.demands.specs.Hiding.Steps.{SentAlike, MovedStep}

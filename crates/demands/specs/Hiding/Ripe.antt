@@ -34,8 +34,9 @@ use Rattle.rules.specs.Laws.RoundTrip.{is-echo, is-ready}
 use Rattle.rules.specs.Laws.Room.{Found, room}
 use Rattle.rules.specs.Laws.Passed.{Passed}
 use Rattle.rules.specs.Laws.Kept.Changes.{Good}
-use Rattle.demands.specs.Histories.{Call, deals, gets, commanded, own, doing, after}
-use Rattle.demands.specs.Lives.{checksNow, takesNow, said, life-sound, places-say}
+use Rattle.demands.specs.Terms.Histories.{Call, deals, gets, commanded, own, doing, after}
+use Rattle.demands.specs.Terms.Lives.{checksNow, takesNow, said}
+use Rattle.demands.specs.Lives.{life-sound, places-say}
 use Rattle.demands.specs.Lives.Stepped.{stepOf}
 use Rattle.demands.specs.Lives.Took.{sendsNow, slot-sent}
 use Rattle.demands.specs.Lives.Deliveries.{has-passed, out-message}

@@ -23,9 +23,9 @@ use Rattle.rules.specs.Dealing.{coefficientsBelow, polynomialsBelow, fourBelow}
 use Rattle.rules.specs.Laws.Lengths.{length-toEach}
 use Rattle.rules.specs.Laws.RoundTrip.{MatrixFits, PolynomialFits, PolynomialsFit, FourFits, Fits}
 use Rattle.rules.specs.Laws.Ranges.{four-room, remainders-room, dealt-room}
-use Rattle.demands.specs.Histories.{messageTo}
+use Rattle.demands.specs.Terms.Histories.{messageTo}
 use Rattle.demands.specs.MessageTo.{message-to}
-use Rattle.demands.specs.Matching.{z, difference, difference′}
+use Rattle.demands.specs.Terms.Secrets.{z, difference, difference′}
 use Rattle.demands.specs.Hiding.Moves.{Twice, numbers, inSet, q, dealt, zed, movedBy, movedPolynomials, movedMessage}
 use Rattle.demands.specs.Hiding.Hypotheses.{Given, size}
 use Rattle.demands.specs.Hiding.Values.{coefficient-moved}

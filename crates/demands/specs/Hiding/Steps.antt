@@ -30,8 +30,8 @@ use Rattle.rules.specs.Laws.Checks.{echo-below, ready-below}
 use Rattle.rules.specs.declared.Side.{Side}
 use Rattle.rules.specs.declared.Side.the-variants.{ByEcho, ByReady}
 use Rattle.rules.specs.Laws.Kept.OpenSlot.{fresh}
-use Rattle.demands.specs.Histories.{own}
-use Rattle.demands.specs.Sharing.{Different}
+use Rattle.demands.specs.Terms.Histories.{own}
+use Rattle.demands.specs.Terms.Dealing.{Different}
 use Rattle.demands.specs.Hiding.Moves.{Twice, numbers, q, dealt, zed, movedFour, movedPair, movedPolynomials, movedPoint, movedPlace, movedSaid, movedSlot, movedRecord, slot-moved, place-moved, lowest-moved}
 use Rattle.demands.specs.Hiding.Hypotheses.{Given, q-some}
 use Rattle.demands.specs.Hiding.Values.{echo-moved, ready-moved, pair-moved}

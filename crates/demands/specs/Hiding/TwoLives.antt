@@ -28,7 +28,7 @@ use Rattle.rules.specs.Laws.Numbers.{is-box}
 use Rattle.rules.specs.Laws.DemandOne.{answered-accepted, answered-either}
 use Rattle.rules.specs.declared.Side.{Side}
 use Rattle.rules.specs.declared.Side.the-variants.{ByEcho, ByReady}
-use Rattle.demands.specs.Histories.{Call, deals, gets, commanded, own, doing, after, answers, wrote, sendings, messageTo, messageAt}
+use Rattle.demands.specs.Terms.Histories.{Call, deals, gets, commanded, own, doing, after, answers, wrote, sendings, messageTo, messageAt}
 use Rattle.demands.specs.Lives.{life-sound}
 use Rattle.demands.specs.Lives.Born.{born}
 use Rattle.demands.specs.Hiding.Moves.{Twice, numbers, coins′, movedMessage, movedSlot, movedRecord}

@@ -18,8 +18,8 @@ use Rattle.rules.specs.declared.Polynomials.{Polynomials}
 use Rattle.rules.specs.Matrices.{coefficient, α, α′, β, β′}
 use Rattle.rules.specs.Dealing.{polynomialsBelow, fourBelow, polynomialCheck, pointCheck, opens, lEquation, jEquation, αEquation, βEquation}
 use Rattle.rules.specs.Laws.Checks.{four-below, polynomials-below, four-lows}
-use Rattle.demands.specs.Sharing.{group}
-use Rattle.demands.specs.Matching.{z, difference, difference′}
+use Rattle.demands.specs.Terms.Dealing.{group}
+use Rattle.demands.specs.Terms.Secrets.{z, difference, difference′}
 use Rattle.demands.specs.Hiding.Moves.{Twice, numbers, inSet, q, zed, shifted, shifted′, movedFour, movedBy, movedPolynomials}
 use Rattle.demands.specs.Hiding.Hypotheses.{Given, unseen, low}
 use Rattle.demands.specs.Hiding.Values.{coefficient-moved}

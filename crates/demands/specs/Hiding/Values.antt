@@ -20,8 +20,10 @@ use Rattle.rules.specs.Matrices.{coefficient, α, α′, β, β′, zeroFour}
 use Rattle.rules.specs.Dealing.{valueAt}
 use Rattle.rules.specs.Steps.{Said, through, pairFrom, readyFour, echoFour}
 use Rattle.rules.specs.Laws.Matrices.{coefficient-at}
-use Rattle.demands.specs.Sharing.{none, Different, boxAt, sayAt, places, through-boxes}
-use Rattle.demands.specs.Matching.{z, zAt, difference, difference′}
+use Rattle.demands.specs.Terms.Dealing.{none, Different}
+use Rattle.demands.specs.Sharing.{boxAt, sayAt, places, through-boxes}
+use Rattle.demands.specs.Terms.Secrets.{z, difference, difference′}
+use Rattle.demands.specs.Matching.{zAt}
 use Rattle.demands.specs.Hiding.Moves.{Twice, numbers, inSet, q, zed, movedFour, movedPair, movedBy, movedPolynomials, movedSaid}
 use Rattle.demands.specs.Hiding.Hypotheses.{Given, size, q-prime, sound-numbers}
 

@@ -22,8 +22,8 @@ use Rattle.rules.specs.Laws.Facts.{SlotFacts}
 use Rattle.rules.specs.Laws.New.{set-up-sound}
 use Rattle.rules.specs.Laws.Kept.{good-of}
 use Rattle.rules.specs.Laws.Kept.Changes.{Good}
-use Rattle.demands.specs.Histories.{Call, after}
-use Rattle.demands.specs.Sharing.{Sound}
+use Rattle.demands.specs.Terms.Histories.{Call, after}
+use Rattle.demands.specs.Terms.Dealing.{Sound}
 use Rattle.demands.specs.Lives.Slots.{slotOf, slot-lacks}
 use Rattle.demands.specs.Lives.Turns.{Turn}
 use Rattle.demands.specs.Lives.Deliveries.{turn}

@@ -20,26 +20,22 @@ use Rattle.rules.specs.declared.Record.{Record}
 use Rattle.rules.specs.declared.Sent.{Sent}
 use Rattle.rules.specs.declared.Sent.the-variants.{Send, Recovery}
 use Rattle.rules.specs.declared.SetUp.{SetUp}
-use Rattle.rules.specs.Messages.{send, recovery, toEach}
+use Rattle.rules.specs.Messages.{recovery, toEach}
 use Rattle.rules.specs.Dealing.{coinsKeep}
 use Rattle.rules.specs.Record.{slotAt, isDone, sound}
 use Rattle.rules.specs.Steps.{Step, dealStep, recoverStep, completedShare, shareBytes}
-use Rattle.rules.specs.Answers.{Done, done, accepted, answered, firstOf, callRows, ownDealRows, dealRows, deal, ownRecoverRows, recoverRows, recover, setUp}
+use Rattle.rules.specs.Answers.{done, accepted, answered, firstOf, callRows, ownDealRows, dealRows, deal, ownRecoverRows, recoverRows, recover, setUp}
 use Rattle.rules.specs.Laws.Table.{none}
 use Rattle.rules.specs.Laws.Sound.{facts-sound}
 use Rattle.rules.specs.Laws.DemandOne.{deal-number, recover-number, outcome-number, answered-accepted}
 use Rattle.rules.specs.Laws.Lengths.{take-written}
-use Rattle.demands.specs.Histories.{Call, deals, commanded, doing, after, answers, wrote}
-use Rattle.demands.specs.Sharing.{dealtMatrix, dealtTo}
-use Rattle.demands.specs.Lives.Terms.{isSend, isRecovery, howMany}
+use Rattle.demands.specs.Terms.Histories.{Call, deals, commanded, doing, after, answers, wrote}
+use Rattle.demands.specs.Terms.Dealing.{sendsOf}
+use Rattle.demands.specs.Terms.Lives.{isSend, isRecovery, howMany, Writes}
 use Rattle.demands.specs.Lives.Born.{good, own-setup}
 use Rattle.demands.specs.Lives.Once.{dealt-counts, commanded-counts}
 
 -- ---- the sends of a deal
-
--- to each box the dealt matrix and its polynomials
-abbrev pub sendsOf : SetUp → ℕ → List ℕ → List ℕ
-sendsOf u secret coins = toEach u (λ j. send (dealtMatrix u secret coins) (dealtTo u secret coins j))
 
 pub deal-sends : (x : Record) (secret : ℕ) (coins : List ℕ)
     → (dealStep x secret coins .sent ≡ Send) × (dealStep x secret coins .bytes ≡ sendsOf (x .setup) secret coins)
@@ -78,12 +74,6 @@ module _ (x : Record) (is-sound : sound x ≡ true) (lent : ℕ) (long : 2048 �
       (and-intro _ _ (ap not (or-none _ _ (ap not complete) first)) refl)))
 
 -- ---- in a life
-
--- a call is accepted, and has sent this and written these bytes
-pub record Writes (d : Done) (what : Sent) (bytes : List ℕ) : Type 0 where
-  pub no : d .outcome .answer .no ≡ 0
-  pub sent : d .outcome .answer .sent ≡ what
-  pub wrote : wrote d ≡ bytes
 
 writes : (n : ℕ) (st : Step) (after : Record) (buffer : List ℕ) (what : Sent) (bytes : List ℕ) → n ≡ 0 → st .sent ≡ what → st .bytes ≡ bytes
     → Writes (answered n st after buffer) what bytes

@@ -27,9 +27,9 @@ use Rattle.rules.specs.Record.{slotAt, marked, matrixOf, isDone, isThere, count
 use Rattle.rules.specs.Steps.{taken, readyDue, completionDue}
 use Rattle.rules.specs.Answers.{setUp}
 use Rattle.rules.specs.Laws.Kept.TakenSlot.{count-is, count-up}
-use Rattle.demands.specs.Histories.{Call, after}
+use Rattle.demands.specs.Terms.Histories.{Call, after}
 use Rattle.demands.specs.Sharing.{size}
-use Rattle.demands.specs.Lives.Terms.{keptFor}
+use Rattle.demands.specs.Terms.Lives.{keptFor}
 use Rattle.demands.specs.Lives.Slots.{slotOf, kept-of, slot-shape, slot-used, there-some}
 use Rattle.demands.specs.Lives.Seen.{View, Touched, aside, touched, view}
 use Rattle.demands.specs.Lives.Born.{good, own-setup, slot-born, turn-at, numbers-keep}

@@ -29,9 +29,9 @@ use Rattle.rules.specs.declared.Side.{Side}
 use Rattle.rules.specs.declared.Side.the-variants.{ByEcho, ByReady}
 use Rattle.rules.specs.Laws.Facts.{marksOf, ear}
 use Rattle.rules.specs.Laws.Kept.OpenSlot.{zero-silent, zero-unmarked}
-use Rattle.demands.specs.Histories.{Call, after}
-use Rattle.demands.specs.Sharing.{group}
-use Rattle.demands.specs.Lives.Terms.{checksNow, checked, takesNow, fourOf, said, eOf, rOf}
+use Rattle.demands.specs.Terms.Histories.{Call, after}
+use Rattle.demands.specs.Terms.Dealing.{group}
+use Rattle.demands.specs.Terms.Lives.{checksNow, checked, takesNow, fourOf, said, eOf, rOf}
 use Rattle.demands.specs.Lives.Slots.{slotOf, e-of, r-of, slot-shape}
 use Rattle.demands.specs.Lives.Took.{taken-mark, taken-point}
 use Rattle.demands.specs.Lives.Turns.{next}

@@ -39,8 +39,8 @@ use Rattle.rules.specs.Laws.Room.{Found, room}
 use Rattle.rules.specs.Laws.Kept.{deliver-kept, good-of}
 use Rattle.rules.specs.Laws.Passed.{Passed, rows-passed}
 use Rattle.rules.specs.Laws.Kept.Changes.{Good, hears-own, hears-stays}
-use Rattle.demands.specs.Histories.{Call, deals, gets, commanded, doing, wrote}
-use Rattle.demands.specs.Lives.Terms.{checksNow, shareNow, isEcho, isReady}
+use Rattle.demands.specs.Terms.Histories.{Call, deals, gets, commanded, doing, wrote}
+use Rattle.demands.specs.Terms.Lives.{checksNow, shareNow, isEcho, isReady}
 use Rattle.demands.specs.Lives.Stepped.{JustNow, Stays, as-before, OwnMarks, marks-stay, stepOf, stepped, shared}
 use Rattle.demands.specs.Lives.Took.{Took, sendsNow, took}
 use Rattle.demands.specs.Lives.Turns.{next, takes, keeps, Turn, Untouched, untouched-heard, untouched-same, Tells, tells-refused, quiet-turned, quiet-way, turn-deals, turn-commanded}

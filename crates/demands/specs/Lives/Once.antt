@@ -20,8 +20,8 @@ use Rattle.rules.specs.declared.SetUp.{SetUp}
 use Rattle.rules.specs.Record.{isDone, newRecord}
 use Rattle.rules.specs.Answers.{setUp}
 use Rattle.rules.specs.Laws.Facts.{hears}
-use Rattle.demands.specs.Histories.{Call, doing, after, answers}
-use Rattle.demands.specs.Lives.Terms.{isSend, isEcho, isRecovery, howMany}
+use Rattle.demands.specs.Terms.Histories.{Call, doing, after, answers}
+use Rattle.demands.specs.Terms.Lives.{isSend, isEcho, isRecovery, howMany}
 use Rattle.demands.specs.Lives.Stepped.{Stays, Once}
 use Rattle.demands.specs.Lives.Turns.{next, Turn}
 use Rattle.demands.specs.Lives.Born.{born, own-setup, turn-at}

@@ -35,9 +35,10 @@ use Rattle.rules.specs.Laws.Room.{Found, room}
 use Rattle.rules.specs.Laws.Agreement.{agree-self}
 use Rattle.rules.specs.Laws.Passed.{Passed, deal-passed, recover-passed}
 use Rattle.rules.specs.Laws.Kept.Changes.{Good}
-use Rattle.demands.specs.Histories.{Call, deals, gets, commanded, doing, wrote}
-use Rattle.demands.specs.Sharing.{group, order}
-use Rattle.demands.specs.Lives.Commands.{sendsOf, deal-sends}
+use Rattle.demands.specs.Terms.Histories.{Call, deals, gets, commanded, doing, wrote}
+use Rattle.demands.specs.Terms.Dealing.{group, order}
+use Rattle.demands.specs.Terms.Dealing.{sendsOf}
+use Rattle.demands.specs.Lives.Commands.{deal-sends}
 use Rattle.demands.specs.Lives.Stepped.{stepOf, paired}
 use Rattle.demands.specs.Lives.Slots.{Has}
 use Rattle.demands.specs.Lives.Took.{took, slot-sent}

@@ -26,7 +26,7 @@ use Rattle.rules.specs.Matrices.{zeroFour}
 use Rattle.rules.specs.Record.{placeAt, shareAt, isHeld, isThere, held, sharesKept}
 use Rattle.rules.specs.Steps.{Said, heldAt, points, keptAt, sharePoints}
 use Rattle.rules.specs.Answers.{noPair}
-use Rattle.demands.specs.Sharing.{Different, none}
+use Rattle.demands.specs.Terms.Dealing.{Different, none}
 
 -- ---- runs of one element or none for each box
 

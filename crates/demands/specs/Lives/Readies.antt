@@ -33,9 +33,10 @@ use Rattle.rules.specs.Laws.Shape.{ShapedSlot}
 use Rattle.rules.specs.declared.Side.{Side}
 use Rattle.rules.specs.Laws.Facts.{marksOf, PairRight, SlotFacts}
 use Rattle.rules.specs.Laws.Kept.TakenSlot.{other, countOf, aim, count-grows, count-up, either-side, due-sides}
-use Rattle.demands.specs.Histories.{Call, after}
-use Rattle.demands.specs.Sharing.{group, order, Different, share-passes}
-use Rattle.demands.specs.Lives.Terms.{readiesSent}
+use Rattle.demands.specs.Terms.Histories.{Call, after}
+use Rattle.demands.specs.Terms.Dealing.{group, order, Different}
+use Rattle.demands.specs.Sharing.{share-passes}
+use Rattle.demands.specs.Terms.Lives.{readiesSent}
 use Rattle.demands.specs.Lives.Slots.{slotOf, slot-facts, slot-shape}
 use Rattle.demands.specs.Lives.Turns.{next}
 use Rattle.demands.specs.Lives.Seen.{readyNow, View, aside, touched, view}

@@ -30,9 +30,10 @@ use Rattle.rules.specs.Steps.{recoveredFrom, sharePoints, sharing}
 use Rattle.rules.specs.Answers.{setUp, shareChecks}
 use Rattle.rules.specs.Laws.Facts.{Facts}
 use Rattle.rules.specs.Laws.Kept.Changes.{Good}
-use Rattle.demands.specs.Histories.{Call, after}
-use Rattle.demands.specs.Sharing.{group, order, shares-open}
-use Rattle.demands.specs.Lives.Terms.{shareNow, pairOf, shareSaid}
+use Rattle.demands.specs.Terms.Histories.{Call, after}
+use Rattle.demands.specs.Terms.Dealing.{group, order}
+use Rattle.demands.specs.Sharing.{shares-open}
+use Rattle.demands.specs.Terms.Lives.{shareNow, pairOf, shareSaid}
 use Rattle.demands.specs.Lives.Turns.{next, Way, quiet, takes, keeps}
 use Rattle.demands.specs.Lives.Born.{born, good, turn-at, own-setup, numbers-keep}
 use Rattle.demands.specs.Lives.Points.{shares-differ}

@@ -21,8 +21,8 @@ use Rattle.rules.specs.declared.Side.the-variants.{ByEcho, ByReady}
 use Rattle.rules.specs.Laws.Facts.{marksOf, ear}
 use Rattle.rules.specs.Laws.Agreement.{passes-agree, point-agree}
 use Rattle.rules.specs.Laws.Kept.Changes.{Good}
-use Rattle.demands.specs.Histories.{Call, doing}
-use Rattle.demands.specs.Lives.Terms.{checksNow, senderOf, takesNow, fourOf, isReady}
+use Rattle.demands.specs.Terms.Histories.{Call, doing}
+use Rattle.demands.specs.Terms.Lives.{checksNow, senderOf, takesNow, fourOf, isReady}
 use Rattle.demands.specs.Lives.Slots.{slotOf, slot-same, slot-unmarked}
 use Rattle.demands.specs.Lives.Took.{SlotTook}
 use Rattle.demands.specs.Lives.Turns.{next, Takes, Way, quiet, takes, keeps}

@@ -4,57 +4,30 @@
 -- Assumes nothing.
 use mathlib.Core.Path.{_≡_, refl, sym, ap, _∙_, subst}
 use mathlib.Core.Bool.{true}
-use mathlib.Core.List.{List, [], _∷_}
+use mathlib.Core.List.{List, _∷_}
 use Prim.Native.Nat.{ℕ}
 use lib.ListN.{take}
 use Rattle.folds.specs.Tests.{true≢false}
 use Rattle.rules.specs.declared.Completion.{Completion}
 use Rattle.rules.specs.declared.Completion.the-variants.{NotYet, With}
 use Rattle.rules.specs.declared.Element.{Element}
-use Rattle.rules.specs.declared.Kept.the-variants.{There}
-use Rattle.rules.specs.declared.Pair.{Pair}
 use Rattle.rules.specs.declared.Record.{Record}
 use Rattle.rules.specs.declared.Sent.{Sent}
 use Rattle.rules.specs.declared.Sent.the-variants.{Nothing, Send, Echo, Ready, Recovery}
 use Rattle.rules.specs.declared.SetUp.{SetUp}
-use Rattle.rules.specs.Messages.{echo, ready, recovery, tagIn, matrixIn, polynomialsIn, toEach}
+use Rattle.rules.specs.Messages.{ready, matrixIn, toEach}
 use Rattle.rules.specs.Record.{slotAt, matrixOf, isDone}
-use Rattle.rules.specs.Steps.{points, echoFour, readyFour, completedShare, shareBytes}
+use Rattle.rules.specs.Steps.{points, readyFour, completedShare, shareBytes}
 use Rattle.rules.specs.Answers.{Done, setUp}
-use Rattle.demands.specs.Histories.{Call, deals, gets, commanded, doing, after, wrote}
-use Rattle.demands.specs.Sharing.{order}
-use Rattle.demands.specs.Lives.Terms.{lowestFor}
+use Rattle.demands.specs.Terms.Histories.{Call, doing, after, wrote, own}
+use Rattle.demands.specs.Terms.Dealing.{order}
+use Rattle.demands.specs.Terms.Lives.{lowestFor, Sends}
 use Rattle.demands.specs.Lives.Slots.{Has, own-is, there-some}
 use Rattle.demands.specs.Lives.Born.{good, own-setup}
 use Rattle.demands.specs.Lives.Completed.{done-kept}
-use Rattle.demands.specs.Lives.Commands.{sendsOf}
+use Rattle.demands.specs.Terms.Dealing.{order}
 use Rattle.demands.specs.Lives.Origins.{readyOf, Spoken, spoken}
 use Rattle.demands.specs.Own.{each-same, ready-bytes}
-
--- ---- by its kind
-
-abbrev pub Sends : SetUp → List Call → Call → Sent → List ℕ → Type 0
-Sends u cs c Nothing run = run ≡ []
--- a deal: to each box its send of this secret and these coins
-Sends u cs c Send run = (secret : ℕ) × (coins : List ℕ) × (lent : ℕ) × (c ≡ deals secret coins lent) × (run ≡ sendsOf u secret coins)
--- a send: the echo of its polynomials
-Sends u cs c Echo run =
-    (sender lent : ℕ) × (bytes : List ℕ)
-    × (c ≡ gets sender bytes lent)
-    × (tagIn bytes ≡ 1)
-    × (run ≡ toEach u (λ j. echo (matrixIn u bytes) (echoFour (order u) (u .k) (polynomialsIn u bytes) j)))
--- an echo or ready: the ready of the k lowest points then held for its matrix
-Sends u cs c Ready run =
-    (sender lent : ℕ) × (bytes : List ℕ)
-    × (c ≡ gets sender bytes lent)
-    × (run ≡ toEach u (λ j. ready (matrixIn u bytes) (readyFour (order u) (lowestFor u (after u (c ∷ cs)) (matrixIn u bytes)) j)))
--- a command: the completed share
-Sends u cs c Recovery run =
-    (s lent : ℕ) × (p : Pair)
-    × (c ≡ commanded lent)
-    × (after u cs .progress .completion ≡ With s)
-    × (slotAt (after u cs) s .pair .kept ≡ There p)
-    × (run ≡ toEach u (λ j. recovery p))
 
 -- ---- it does
 

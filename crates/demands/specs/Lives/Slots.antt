@@ -31,7 +31,7 @@ use Rattle.rules.specs.Laws.Agreement.{agree-self, agree-trans, agree-either}
 use Rattle.rules.specs.Laws.New.{new-sound, zero-slot}
 use Rattle.rules.specs.Laws.Kept.OpenSlot.{zero-unmarked}
 use Rattle.rules.specs.Laws.Kept.Changes.{Good}
-use Rattle.demands.specs.Lives.Terms.{eOf, rOf, keptFor}
+use Rattle.demands.specs.Terms.Lives.{eOf, rOf, keptFor}
 
 -- ---- the slot
 

@@ -27,7 +27,7 @@ use Rattle.rules.specs.Record.{groupIn, slotAt, isDone, sharesKept}
 use Rattle.rules.specs.Steps.{Step, withProgress, withShares, withSlot, heard, points, pairFrom, ownSlot, freeSlot, slotFor, opened, taken, keeping, readySent, firstCompletion, completing, completed, readyDue, completionDue, pointAt, pointStep, recoveredFrom, sharePoints, sharing, recovering, shareStep}
 use Rattle.rules.specs.declared.Side.{Side}
 use Rattle.rules.specs.Laws.Facts.{ear}
-use Rattle.demands.specs.Lives.Terms.{isSend, isEcho, isReady, isRecovery}
+use Rattle.demands.specs.Terms.Lives.{isSend, isEcho, isReady, isRecovery}
 
 -- ---- completion
 

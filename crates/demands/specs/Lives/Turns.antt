@@ -31,8 +31,8 @@ use Rattle.rules.specs.Laws.Sound.{facts-sound}
 use Rattle.rules.specs.Laws.Passed.{deal-passed, recover-passed}
 use Rattle.rules.specs.Laws.Kept.{deal-kept, recover-kept, good-of}
 use Rattle.rules.specs.Laws.Kept.Changes.{Good, hears-stays}
-use Rattle.demands.specs.Histories.{Call, deals, commanded, doing}
-use Rattle.demands.specs.Lives.Terms.{checksNow, senderOf, fourOf, shareNow, pairOf, isEcho, isReady}
+use Rattle.demands.specs.Terms.Histories.{Call, deals, commanded, doing}
+use Rattle.demands.specs.Terms.Lives.{checksNow, senderOf, fourOf, shareNow, pairOf, isEcho, isReady}
 use Rattle.demands.specs.Lives.Stepped.{JustNow, Stays, as-before, OwnMarks, marks-stay}
 use Rattle.demands.specs.Lives.Took.{Took, took}
 

@@ -1,4 +1,5 @@
--- Of a life, whatever a box is told and sent: what has been checked in it, what the box holds for a matrix, what it has sent.
+-- Of a life, whatever a box is told and sent: what has been checked in it, what the box holds for a matrix, what it has sent, and
+-- what one call sends.
 --
 -- In that order.
 -- Assumes nothing.
@@ -19,10 +20,14 @@ use Rattle.rules.specs.declared.Record.{Record}
 use Rattle.rules.specs.declared.Sent.{Sent}
 use Rattle.rules.specs.declared.Sent.the-variants.{Nothing, Send, Echo, Ready, Recovery}
 use Rattle.rules.specs.declared.SetUp.{SetUp}
-use Rattle.rules.specs.Messages.{tagIn, matrixIn, fourIn, pairIn}
+use Rattle.rules.specs.Messages.{tagIn, matrixIn, fourIn, pairIn, echo, ready, recovery, polynomialsIn, toEach}
 use Rattle.rules.specs.Record.{slotAt, sameMatrix, countE, countR}
-use Rattle.rules.specs.Steps.{Said, points, ownSlot, firstPoint}
-use Rattle.demands.specs.Histories.{Call, deals, gets, commanded, doing, after}
+use Rattle.rules.specs.Steps.{Said, points, ownSlot, firstPoint, echoFour, readyFour}
+use mathlib.Core.Path.{_≡_}
+use Rattle.rules.specs.declared.Completion.the-variants.{With}
+use Rattle.rules.specs.Answers.{Done}
+use Rattle.demands.specs.Terms.Histories.{Call, deals, gets, commanded, doing, after, wrote, messageTo, own}
+use Rattle.demands.specs.Terms.Dealing.{order, sendsOf}
 
 -- ---- what has been checked
 
@@ -129,3 +134,40 @@ readiesSent u [] C = 0
 readiesSent u (c ∷ cs) C =
     pick (isReady (doing (after u cs) c .outcome .answer .sent) and takesNow (after u cs) c (senderOf c) C) 1 0
     + readiesSent u cs C
+
+-- ---- what a call sends
+
+-- a call is accepted, and has sent this and written these bytes
+pub record Writes (d : Done) (what : Sent) (bytes : List ℕ) : Type 0 where
+  pub no : d .outcome .answer .no ≡ 0
+  pub sent : d .outcome .answer .sent ≡ what
+  pub wrote : wrote d ≡ bytes
+
+-- what box j answers to the message that a call of box i has sent it, where both are of one class and have made these calls before
+abbrev pub answerTo : SetUp → (i j : ℕ) → List Call → List Call → Call → ℕ → ℕ
+answerTo u i j cs cs′ c lent =
+    doing (after (own u j) cs′) (gets i (messageTo (u .n) (wrote (doing (after (own u i) cs) c)) j) lent) .outcome .answer .no
+
+-- what a call has sent, by its kind
+abbrev pub Sends : SetUp → List Call → Call → Sent → List ℕ → Type 0
+Sends u cs c Nothing run = run ≡ []
+-- a deal: to each box its send of this secret and these coins
+Sends u cs c Send run = (secret : ℕ) × (coins : List ℕ) × (lent : ℕ) × (c ≡ deals secret coins lent) × (run ≡ sendsOf u secret coins)
+-- a send: the echo of its polynomials
+Sends u cs c Echo run =
+    (sender lent : ℕ) × (bytes : List ℕ)
+    × (c ≡ gets sender bytes lent)
+    × (tagIn bytes ≡ 1)
+    × (run ≡ toEach u (λ j. echo (matrixIn u bytes) (echoFour (order u) (u .k) (polynomialsIn u bytes) j)))
+-- an echo or ready: the ready of the k lowest points then held for its matrix
+Sends u cs c Ready run =
+    (sender lent : ℕ) × (bytes : List ℕ)
+    × (c ≡ gets sender bytes lent)
+    × (run ≡ toEach u (λ j. ready (matrixIn u bytes) (readyFour (order u) (lowestFor u (after u (c ∷ cs)) (matrixIn u bytes)) j)))
+-- a command: the completed share
+Sends u cs c Recovery run =
+    (s lent : ℕ) × (p : Pair)
+    × (c ≡ commanded lent)
+    × (after u cs .progress .completion ≡ With s)
+    × (slotAt (after u cs) s .pair .kept ≡ There p)
+    × (run ≡ toEach u (λ j. recovery p))
