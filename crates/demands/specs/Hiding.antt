@@ -21,18 +21,19 @@ pub mod Ripe
 pub mod TwoLives
 use mathlib.Core.Path.{_≡_, refl, sym, ap, ap₂, _∙_, subst}
 use mathlib.Core.Bool.{true, false, not}
-use mathlib.Core.Logic.{inl, inr}
+use mathlib.Core.Logic.{inl, inr, ⊎-elim}
 use mathlib.Core.List.{List, [], _∷_, _++_, map}
 use Prim.Native.Nat.{ℕ, _<_}
 use lib.Dec.{eqb}
 use borrow.Author.Tests.{eqb-true, not-true}
-use Rattle.folds.specs.Tests.{_and_, and-left, and-right, pick-either, pick-two}
+use Rattle.folds.specs.Tests.{_and_, and-left, and-right, pick-two}
 use Rattle.rules.specs.declared.Record.{Record}
 use Rattle.rules.specs.declared.SetUp.{SetUp}
 use Rattle.rules.specs.Numbers.{groupKeeps, isBox, numbersKeep}
 use Rattle.rules.specs.Dealing.{coinsKeep}
 use Rattle.rules.specs.Record.{slotAt, matrixOf, countE, countR}
-use Rattle.demands.specs.Histories.{Class, Call, deals, gets, commanded, after, Event, deal-at, hand-on, forge, command-at, keeps, mayBreak, own, messageAt, handed, calls, recordOf, answers, seen}
+use Rattle.demands.specs.Histories.{Class, Call, after, Event, deal-at, hand-on, forge, command-at, keeps, mayBreak, own, messageAt, handed, calls, recordOf, answers, seen}
+use Rattle.demands.specs.Histories.Added.{one-call-at-most}
 use Rattle.demands.specs.Sharing.{order}
 use Rattle.demands.specs.Matching.{Few, matching}
 use Moves.{Twice, numbers, inSet, coins′, movedSlot, slot-moved}
@@ -62,31 +63,17 @@ Uncommanded c es = (i : ℕ) → keeps c i ≡ true → recordOf c es i .progres
 
 -- nor had one before the last event
 earlier : (c : Class) (e : Event) (es : List Event) → Uncommanded c (e ∷ es) → Uncommanded c es
-unfolding calls
-earlier c e es h i k = go e (h i k)
+earlier c e es h i k =
+    ⊎-elim
+    (λ q. subst Unmarked q (h i k))
+    (λ w. unmarked-before u (w .0) (calls c es i) (subst Unmarked (w .1) (h i k)))
+    (one-call-at-most c es i e)
   where
     u : SetUp
     u = own (c .numbers) i
 
-    Before : List Call → Type 0
-    Before cs = after u cs .progress .commanded ≡ false → after u (calls c es i) .progress .commanded ≡ false
-
-    one : (call : Call) → Before (call ∷ calls c es i)
-    one call = unmarked-before u call (calls c es i)
-
-    any : (from lent : ℕ) (l : List (List ℕ)) → Before (handed from lent l ++ calls c es i)
-    any from lent [] m = m
-    any from lent (bytes ∷ l) m = one (gets from bytes lent) m
-
-    go : (e : Event) → Before (calls c (e ∷ es) i)
-    go (deal-at at secret coins lent) =
-        pick-either Before (eqb at i and keeps c i) _ _ (λ e. one (deals secret coins lent)) (λ e m. m)
-    go (hand-on from to place lent) =
-        pick-either Before (eqb to i and keeps c i and keeps c from) _ _
-        (λ e. any from lent (messageAt (own (c .numbers) from) (calls c es from) to place)) (λ e m. m)
-    go (forge from to bytes lent) =
-        pick-either Before (eqb to i and keeps c i and not (keeps c from)) _ _ (λ e. one (gets from bytes lent)) (λ e m. m)
-    go (command-at at lent) = pick-either Before (eqb at i and keeps c i) _ _ (λ e. one (commanded lent)) (λ e m. m)
+    Unmarked : List Call → Type 0
+    Unmarked cs = after u cs .progress .commanded ≡ false
 
 -- ---- two histories that look the same
 
