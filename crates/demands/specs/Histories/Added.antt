@@ -1,7 +1,7 @@
 -- What an event adds to the calls at a box, and what a delivery of a box that keeps the rules carries.
 --
--- In order: what an event adds, and that it is one call at most; the past of a life or of a history; what was sent stays sent; a
--- delivery carries one of its sender's earlier messages.
+-- In order: what an event adds, and that it is one call at most; the past of a life or of a history; what was sent stays sent; what a
+-- call came by; a delivery carries one of its sender's earlier messages.
 -- Assumes nothing.
 use mathlib.Core.Path.{_≡_, refl, sym, ap, _∙_, subst}
 use mathlib.Core.Bool.{true, false, not}
@@ -133,73 +133,95 @@ sent-stays u past now (since, e) place l =
     go [] = (l, refl)
     go (call ∷ since) = behind (sendings u (since ++ past)) _ (go since)
 
+-- ---- what a call came by
+
+-- the event that added the call to the life that was before it
+pub record Came (c : Class) (es : List Event) (i : ℕ) (call : Call) (before : List Call) : Type 0 where
+  pub event : Event
+  pub then : List Event
+  pub earlier : Past (event ∷ then) es
+  pub life : before ≡ calls c then i
+  pub adds : Adds c then i (call ∷ before)
+
+pub came : (c : Class) (es : List Event) (i : ℕ) (call : Call) (before : List Call) → Past (call ∷ before) (calls c es i)
+    → Came c es i call before
+unfolding calls
+came c [] i call before p = absurd (past-none call before p)
+came c (e ∷ es) i call before p =
+    go (calls c (e ∷ es) i) (one-call-at-most c es i e) (added c es i e) (came c es i call before) p
+  where
+    longer : Came c es i call before → Came c (e ∷ es) i call before
+    longer w =
+        record {
+          event = w .event;
+          then = w .then;
+          earlier = past-more e (w .event ∷ w .then) es (w .earlier);
+          life = w .life;
+          adds = w .adds;
+        }
+
+    go : (now : List Call) → OneAtMost (calls c es i) now → Adds c es i now
+        → (Past (call ∷ before) (calls c es i) → Came c es i call before)
+        → Past (call ∷ before) now → Came c (e ∷ es) i call before
+    go now (inl q) a ih p = longer (ih (subst (Past (call ∷ before)) q p))
+    go now (inr (last, q)) a ih p =
+        ⊎-elim
+        (λ w. record {
+          event = e;
+          then = es;
+          earlier = past-self (e ∷ es);
+          life = w .1;
+          adds = subst (Adds c es i) (q ∙ sym (λ j. w .0 j ∷ w .1 j)) a;
+        })
+        (λ w. longer (ih w))
+        (past-cases call last before (calls c es i) (subst (Past (call ∷ before)) q p))
+
 -- ---- a delivery carries an earlier message
 
 -- when the bytes came to box i, `from` had sent them to it: at this place among what it had sent till then
 pub record Carries (c : Class) (es : List Event) (i from : ℕ) (bytes : List ℕ) (before : List Call) : Type 0 where
+  pub event : Event
   pub then : List Event
-  pub earlier : Past then es
+  pub earlier : Past (event ∷ then) es
   pub life : before ≡ calls c then i
   pub place : ℕ
   pub sent : place < length (sentBy c then from)
   pub bytes-are : bytes ≡ messageTo (c .numbers .n) (getD (sentBy c then from) place []) i
 
-module _ (c : Class) (i from : ℕ) (bytes : List ℕ) (lent : ℕ) (before : List Call) (k : keeps c from ≡ true) where
-  abbrev it : Call
-  it = gets from bytes lent
+-- Every delivery of a box that keeps the rules carries one of its earlier messages to the addressee.
+pub carries-earlier : (c : Class) (es : List Event) (i from : ℕ) (bytes : List ℕ) (lent : ℕ) (before : List Call) → keeps c from ≡ true
+    → Past (gets from bytes lent ∷ before) (calls c es i) → Carries c es i from bytes before
+carries-earlier c es i from bytes lent before k p = go (came c es i (gets from bytes lent) before p)
+  where
+    go : Came c es i (gets from bytes lent) before → Carries c es i from bytes before
+    go w = by (w .adds)
+      where
+        then : List Event
+        then = w .then
 
-  -- so in a longer history
-  carries-more : (e : Event) (es : List Event) → Carries c es i from bytes before → Carries c (e ∷ es) i from bytes before
-  carries-more e es w =
-      record {
-        then = w .then;
-        earlier = past-more e (w .then) es (w .earlier);
-        life = w .life;
-        place = w .place;
-        sent = w .sent;
-        bytes-are = w .bytes-are;
-      }
-
-  -- it is the call that the last event added, or one before it
-  carries-one : (e : Event) (es : List Event) (now : List Call) → Adds c es i now
-      → (Past (it ∷ before) (calls c es i) → Carries c es i from bytes before)
-      → Past (it ∷ before) now → Carries c (e ∷ es) i from bytes before
-  carries-one e es now a ih p = go a
-    where
-      one : (call : Call) → now ≡ call ∷ calls c es i
-          → (it ≡ call → before ≡ calls c es i → Carries c (e ∷ es) i from bytes before) → Carries c (e ∷ es) i from bytes before
-      one call q last =
-          ⊎-elim (λ w. last (w .0) (w .1)) (λ w. carries-more e es (ih w))
-          (past-cases it call before (calls c es i) (subst (Past (it ∷ before)) q p))
-
-      go : Adds c es i now → Carries c (e ∷ es) i from bytes before
-      go (no-call q) = carries-more e es (ih (subst (Past (it ∷ before)) q p))
-      go (told-to-deal secret coins lent′ b q) = one _ q (λ w z. let n : _≡_ {A = ℕ} 0 1 = cc in absurd (omega arith))
-      go (told-to-recover lent′ b q) = one _ q (λ w z. let n : _≡_ {A = ℕ} 0 1 = cc in absurd (omega arith))
-      go (made-up from′ bytes′ lent′ b n q) =
-          one _ q (λ w z. let same : from ≡ from′ = cc in absurd (true≢false (sym k ∙ ap (keeps c) same ∙ n)))
-      go (passed-on from′ place lent′ b m l q) =
-          one _ q (λ w z.
-          let same : from ≡ from′ = cc in
-          let carried : bytes ≡ messageTo (c .numbers .n) (getD (sentBy c es from′) place []) i = cc in
-          record {
-            then = es;
-            earlier = past-more e es es (past-self es);
-            life = z;
-            place = place;
-            sent = subst (λ (m : ℕ). place < length (sentBy c es m)) (sym same) l;
-            bytes-are = subst (λ (m : ℕ). bytes ≡ messageTo (c .numbers .n) (getD (sentBy c es m) place []) i) (sym same) carried;
-          })
-
-  -- Every delivery of a box that keeps the rules carries one of its earlier messages to the addressee.
-  pub carries-earlier : (es : List Event) → Past (gets from bytes lent ∷ before) (calls c es i) → Carries c es i from bytes before
-  unfolding calls
-  carries-earlier [] p = absurd (past-none it before p)
-  carries-earlier (e ∷ es) p = carries-one e es (calls c (e ∷ es) i) (added c es i e) (carries-earlier es) p
+        by : Adds c then i (gets from bytes lent ∷ before) → Carries c es i from bytes before
+        by (no-call q) =
+            let n : length (gets from bytes lent ∷ before) ≡ length before = ap length q ∙ ap length (sym (w .life)) in absurd (omega arith)
+        by (told-to-deal secret coins lent′ b q) = let n : _≡_ {A = ℕ} 0 1 = cc in absurd (omega arith)
+        by (told-to-recover lent′ b q) = let n : _≡_ {A = ℕ} 0 1 = cc in absurd (omega arith)
+        by (made-up from′ bytes′ lent′ b n q) = let same : from ≡ from′ = cc in absurd (true≢false (sym k ∙ ap (keeps c) same ∙ n))
+        by (passed-on from′ place lent′ b m l q) =
+            let same : from′ ≡ from = cc in
+            let carried : bytes ≡ messageTo (c .numbers .n) (getD (sentBy c then from′) place []) i = cc in
+            record {
+              event = w .event;
+              then = then;
+              earlier = w .earlier;
+              life = w .life;
+              place = place;
+              sent = subst (λ (m : ℕ). place < length (sentBy c then m)) same l;
+              bytes-are = subst (λ (m : ℕ). bytes ≡ messageTo (c .numbers .n) (getD (sentBy c then m) place []) i) same carried;
+            }
 
 -- And it is among what the sender has sent to the end.
 pub carries-sent : (c : Class) (es : List Event) (i from : ℕ) (bytes : List ℕ) (before : List Call) → Carries c es i from bytes before
     → (place : ℕ) × (place < length (sentBy c es from)) × (bytes ≡ messageTo (c .numbers .n) (getD (sentBy c es from) place []) i)
 carries-sent c es i from bytes before w =
-    let stays = sent-stays (own (c .numbers) from) _ _ (calls-past c (w .then) es from (w .earlier)) (w .place) (w .sent) in
+    let then-past = past-trans _ _ es (past-more (w .event) _ _ (past-self (w .then))) (w .earlier) in
+    let stays = sent-stays (own (c .numbers) from) _ _ (calls-past c (w .then) es from then-past) (w .place) (w .sent) in
     (w .place, stays .0, w .bytes-are ∙ ap (λ (run : List ℕ). messageTo (c .numbers .n) run i) (sym (stays .1)))
