@@ -78,7 +78,8 @@ module _ (u : SetUp) (taken : setUp u .answer .no ≡ 0) (cs : List Call) (s : �
 
 -- ---- what a box sends is accepted
 
-there-some : (v : Kept) → isThere v ≡ true → (p : Pair) × (v ≡ There p)
+-- a pair that is there is some pair
+pub there-some : (v : Kept) → isThere v ≡ true → (p : Pair) × (v ≡ There p)
 there-some Absent e = absurd (true≢false (sym e))
 there-some (There p) e = (p, refl)
 

@@ -1,12 +1,45 @@
--- A message goes by the numbers that the whole session shares, not by the number of the box that writes or reads it.
+-- The numbers that the whole session shares, under a box's own number: each box is taken at set-up; and a message goes by the shared
+-- ones, not by the number of the box that writes or reads it.
+--
+-- In that order.
 -- Assumes nothing.
 use mathlib.Core.Path.{_≡_, refl}
+use mathlib.Core.Bool.{true}
 use mathlib.Core.List.{List}
-use Prim.Native.Nat.{ℕ}
+use Prim.Native.Nat.{ℕ, _+_}
+use Rattle.folds.specs.Tests.{and-left, and-right, and-intro}
+use Rattle.folds.specs.Runs.{gather-same}
 use Rattle.rules.specs.declared.SetUp.{SetUp}
-use Rattle.rules.specs.Messages.{Message, send, echo, ready, recovery, polynomialBytes, bodyOf, bytesOf, matrixIn, polynomialsIn, fourIn, messageIn}
-use Rattle.rules.specs.Answers.{exponentsKeep}
+use Rattle.rules.specs.Numbers.{groupKeeps, sizesKeep, isBox, numbersKeep}
+use Rattle.rules.specs.Messages.{Message, send, echo, ready, recovery, polynomialBytes, bodyOf, bytesOf, matrixIn, polynomialsIn, fourIn, messageIn, toEach}
+use Rattle.rules.specs.Answers.{exponentsKeep, setUp, setUpRows, outcomeOf, accepted, firstRow}
 use Rattle.demands.specs.Histories.{own}
+use Rattle.demands.specs.Sharing.{Sound}
+
+-- ---- each box is taken
+
+-- numbers that keep their rules under the dealer's number
+module _ (u : SetUp) (group : groupKeeps u ≡ true) (numbers : numbersKeep (own u (u .d)) ≡ true) where
+  pub own-sound : Sound u
+  unfolding numbersKeep
+  own-sound = record { group-keeps = group; sizes-keep = and-left _ _ numbers }
+
+  pub own-keeps : (i : ℕ) → isBox u i ≡ true → numbersKeep (own u i) ≡ true
+  unfolding numbersKeep isBox
+  own-keeps i e =
+      let a = and-left (sizesKeep (u .n) (u .t) (u .k)) _ numbers in
+      let b = and-right (sizesKeep (u .n) (u .t) (u .k)) _ numbers in
+      and-intro _ _ a (and-intro _ _ e (and-right (isBox u (u .d)) _ b))
+
+  pub dealer-box : isBox u (u .d) ≡ true
+  unfolding numbersKeep isBox
+  dealer-box = and-left _ _ (and-right (sizesKeep (u .n) (u .t) (u .k)) _ numbers)
+
+  pub own-taken : (i : ℕ) → isBox u i ≡ true → setUp (own u i) .answer .no ≡ 0
+  unfolding setUp setUpRows firstRow outcomeOf accepted groupKeeps
+  own-taken i e = rw (group, own-keeps i e)
+
+-- ---- a message goes by the shared numbers
 
 pub own-bytes : (u : SetUp) (i : ℕ) (m : Message) → bytesOf (own u i) m ≡ bytesOf u m
 unfolding bytesOf bodyOf polynomialBytes
@@ -14,6 +47,15 @@ own-bytes u i (send C P) = refl
 own-bytes u i (echo C f) = refl
 own-bytes u i (ready C f) = refl
 own-bytes u i (recovery s) = refl
+
+pub own-each : (u : SetUp) (i : ℕ) (f : ℕ → Message) → toEach (own u i) f ≡ toEach u f
+unfolding toEach
+own-each u i f = gather-same _ _ (u .n) (λ j l. own-bytes u i (f (j + 1)))
+
+-- so for two that are written alike
+pub each-same : (u : SetUp) (f g : ℕ → Message) → ((j : ℕ) → bytesOf u (f j) ≡ bytesOf u (g j)) → toEach u f ≡ toEach u g
+unfolding toEach
+each-same u f g h = gather-same _ _ (u .n) (λ j l. h (j + 1))
 
 pub own-matrix : (u : SetUp) (i : ℕ) (bytes : List ℕ) → matrixIn (own u i) bytes ≡ matrixIn u bytes
 unfolding matrixIn

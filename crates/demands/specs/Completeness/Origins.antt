@@ -1,6 +1,6 @@
 -- What stands behind each message that a box sends: an honest deal, a checked send, k checked points, a kept pair.
 --
--- In order: what it is, by the kind of message; an answer and its bytes; the commands; a delivery; any call.
+-- In order: what it is, by the kind of message; an answer and its bytes; the commands; a delivery; any call; a call that wrote.
 -- Assumes nothing.
 use mathlib.Core.Path.{_≡_, refl, sym, ap, _∙_, subst}
 use mathlib.Core.Bool.{Bool, true}
@@ -20,7 +20,7 @@ use Rattle.rules.specs.declared.Sent.{Sent}
 use Rattle.rules.specs.declared.Sent.the-variants.{Nothing, Send, Echo, Ready, Recovery}
 use Rattle.rules.specs.declared.SetUp.{SetUp}
 use Rattle.rules.specs.declared.Slot.{Slot}
-use Rattle.rules.specs.Messages.{Message, send, echo, ready, matrixIn, polynomialsIn, pairIn, messageIn, toEach}
+use Rattle.rules.specs.Messages.{Message, send, echo, ready, tagIn, matrixIn, polynomialsIn, pairIn, messageIn, toEach}
 use Rattle.rules.specs.Dealing.{coinsKeep, matrixPasses, polynomialCheck}
 use Rattle.rules.specs.Record.{slotAt, matrixOf, isThere, sharesKept}
 use Rattle.rules.specs.Steps.{Step, heard, points, readyFour, echoFour, ownSlot, freeSlot, slotFor, opened, keeping, sendStep, readySent, completed, sharing, recovering, shareStep, messageStep, dealStep, completedShare, shareBytes, recoverStep, completionDue, pointAt, pointStep, taken, readyDue}
@@ -48,17 +48,19 @@ abbrev pub readyOf : SetUp → Slot → ℕ → Message
 readyOf u slot j = ready (matrixOf slot) (readyFour (order u) (take (u .k) (points (slot .places))) j)
 
 abbrev pub Spoken : SetUp → Record → Call → Sent → List ℕ → Type 0
-Spoken u x c Nothing run = Unit {0}
+Spoken u x c Nothing run = run ≡ []
 Spoken u x c Send run =
     (secret : ℕ) × (coins : List ℕ)
     × (coinsKeep u secret coins ≡ true)
     × (u .i ≡ u .d)
     × (run ≡ toEach u (λ j. send (dealtMatrix u secret coins) (dealtTo u secret coins j)))
+    × (lent : ℕ) × (c ≡ deals secret coins lent)
 Spoken u x c Echo run =
     (bytes : List ℕ)
     × (matrixPasses (group u) (u .k) (matrixIn u bytes) ≡ true)
     × (polynomialCheck (group u) (u .k) (matrixIn u bytes) (u .i) (polynomialsIn u bytes) ≡ true)
     × (run ≡ toEach u (λ j. echo (matrixIn u bytes) (echoFour (order u) (u .k) (polynomialsIn u bytes) j)))
+    × (sender lent : ℕ) × (c ≡ gets sender bytes lent) × (tagIn bytes ≡ 1)
 Spoken u x c Ready run =
     (s : ℕ) × (s < 20) × (isThere (slotAt (next x c) s .pair .kept) ≡ true) × (run ≡ toEach u (readyOf u (slotAt (next x c) s)))
 Spoken u x c Recovery run = run ≡ shareBytes u (completedShare x (x .progress .completion))
@@ -83,16 +85,16 @@ module _ (x : Record) where
   unfolding doing deal dealStep
   deals-spoken secret coins lent =
       answered-holds (Spoken (x .setup) x (deals secret coins lent)) (firstOf (dealRows x secret coins (length {A = ℕ} (replicate lent 0))))
-      (dealStep x secret coins) x (replicate lent 0) tt
+      (dealStep x secret coins) x (replicate lent 0) refl
       (λ e.
       let c = deal-passed x secret coins (length {A = ℕ} (replicate lent 0)) e in
-      (secret, coins, c .keeps, eqb-true (x .setup .i) (x .setup .d) (c .dealer), refl))
+      (secret, coins, c .keeps, eqb-true (x .setup .i) (x .setup .d) (c .dealer), refl, lent, refl))
 
   commanded-spoken : (lent : ℕ)
       → Spoken (x .setup) x (commanded lent) (doing x (commanded lent) .outcome .answer .sent) (wrote (doing x (commanded lent)))
   unfolding doing recover recoverStep
   commanded-spoken lent =
-      answered-holds (Spoken (x .setup) x (commanded lent)) _ (recoverStep x) x (replicate lent 0) tt (λ e. refl)
+      answered-holds (Spoken (x .setup) x (commanded lent)) _ (recoverStep x) x (replicate lent 0) refl (λ e. refl)
 
   -- ---- a delivery
 
@@ -133,12 +135,12 @@ module _ (x : Record) where
     unfolding pointStep pointAt readySent completed heard slotFor ownSlot freeSlot
     step-tells b C f out found =
         pick-either Tells (sends b C f out found) _ _ (sends-ready b C f out found)
-        (λ e. pick-either Tells (completionDue (x .setup) b (new b C f out found)) _ _ (λ q. tt) (λ q. tt))
+        (λ e. pick-either Tells (completionDue (x .setup) b (new b C f out found)) _ _ (λ q. refl) (λ q. refl))
 
     share-tells : (p : Pair) → Tells (shareStep (heard x 4 (sender - 1)) (sender - 1) p)
     unfolding shareStep recovering heard
     share-tells p =
-        pick-either Tells (eqb (sharesKept (sharing x (sender - 1) p)) (x .setup .k)) _ _ (λ e. tt) (λ e. tt)
+        pick-either Tells (eqb (sharesKept (sharing x (sender - 1) p)) (x .setup .k)) _ _ (λ e. refl) (λ e. refl)
 
     -- a message by its tag
     abbrev says : Message
@@ -152,7 +154,7 @@ module _ (x : Record) where
       unfolding sendStep heard
       message-tells =
           by-tag u bytes (came .hearing .form)
-          (λ h. of _ (is-send u bytes h) (bytes, came .passes (omega arith), rw (is-send u bytes h) at (came .check), refl))
+          (λ h. of _ (is-send u bytes h) (bytes, came .passes (omega arith), rw (is-send u bytes h) at (came .check), refl, sender, lent, refl, h))
           (λ h. of _ (is-echo u bytes h)
           (step-tells ByEcho _ _ (out-message x g sender bytes lent e _ (is-echo u bytes h))
           (room x (sender - 1) _ (facts-sound x (g .facts)) (came .hearing .within) ByEcho (rw h at (came .hearing .unheard)))))
@@ -172,10 +174,28 @@ module _ (x : Record) where
     gets-spoken =
         answered-holds (Spoken (x .setup) x it) (number x g sender bytes lent)
         (messageStep x (sender - 1) says) (refusalHeard (firstRow (deliverRows x sender bytes (length {A = ℕ} (replicate lent 0))) .marks) x sender bytes)
-        (replicate lent 0) tt message-tells
+        (replicate lent 0) refl message-tells
 
 -- What any call on a good record has sent.
 pub spoken : (x : Record) → Good x → (c : Call) → Spoken (x .setup) x c (doing x c .outcome .answer .sent) (wrote (doing x c))
 spoken x g (deals secret coins lent) = deals-spoken x secret coins lent
 spoken x g (gets sender bytes lent) = gets-spoken x g sender bytes lent
 spoken x g (commanded lent) = commanded-spoken x lent
+
+-- ---- a call that wrote
+
+-- it was accepted, and what it wrote is not empty
+abbrev Wrote : Done → Type 0
+Wrote d = (d .outcome .answer .bytes ≡ 0 → ⊥) → (d .outcome .answer .no ≡ 0) × (wrote d ≡ [] → ⊥)
+
+answered-wrote : (n : ℕ) (st : Step) (after : Record) (buffer : List ℕ) → Wrote (answered n st after buffer)
+unfolding accepted refused
+answered-wrote n st after buffer =
+    answered-either n st after buffer Wrote
+    (λ e some. (refl, λ q. some (ap length (sym (take-written (st .bytes) buffer) ∙ q)))) (λ z some. absurd (some refl))
+
+pub wrote-some : (x : Record) (c : Call) → Wrote (doing x c)
+unfolding doing deal recover deliver
+wrote-some x (deals secret coins lent) = answered-wrote _ (dealStep x secret coins) x (replicate lent 0)
+wrote-some x (gets sender bytes lent) = answered-wrote _ (messageStep x (sender - 1) (messageIn (x .setup) bytes)) _ (replicate lent 0)
+wrote-some x (commanded lent) = answered-wrote _ (recoverStep x) x (replicate lent 0)

@@ -27,9 +27,10 @@ use Rattle.rules.specs.Laws.Passed.{deal-passed}
 use Rattle.demands.specs.Histories.{own}
 use Rattle.demands.specs.Sharing.{dealtTo, send-passes}
 use Rattle.demands.specs.Matching.{z}
+use Rattle.demands.specs.Own.{own-each, each-same}
 use Rattle.demands.specs.Hiding.Moves.{Twice, numbers, inSet, q, coins′, dealt, zed, shifted, shifted′, movedBy, movedPolynomials, movedRecord}
 use Rattle.demands.specs.Hiding.Hypotheses.{Given, sound-numbers, size, coins-keep′, same-matrix, dealt-moves}
-use Rattle.demands.specs.Hiding.Steps.{MovedStep, own-each, each-same}
+use Rattle.demands.specs.Hiding.Steps.{MovedStep}
 use Rattle.demands.specs.Hiding.Outcomes.{DoneAlike, answered-alike, row-alike, call-alike}
 use lib.ListN.{length}
 

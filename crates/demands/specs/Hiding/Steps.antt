@@ -25,7 +25,7 @@ use Rattle.rules.specs.declared.Record.{Record}
 use Rattle.rules.specs.declared.SetUp.{SetUp}
 use Rattle.rules.specs.declared.Slot.{Slot}
 use Rattle.rules.specs.Matrices.{zeroFour}
-use Rattle.rules.specs.Messages.{Message, echo, ready, twoBytes, matrixBytes, fourBytes, tagOf, bodyOf, framed, bytesOf, toEach}
+use Rattle.rules.specs.Messages.{echo, ready, twoBytes, matrixBytes, fourBytes, tagOf, bodyOf, framed, bytesOf}
 use Rattle.rules.specs.Record.{slotAt, placeAt, matrixOf, countE, countR, sameMatrix, zeroSlot}
 use Rattle.rules.specs.Steps.{withSlots, Said, pairFrom, readyFour, echoFour, points, ownSlot, freeSlot, slotFor, opened, firstPoint, holding, keeping, Step, quiet, sendStep, withSlot, readySent, lowest, completing, completed, completionDue, pointAt, pointStep, taken, readyDue}
 use Rattle.rules.specs.Laws.Checks.{echo-below, ready-below}
@@ -39,7 +39,7 @@ use Rattle.demands.specs.Hiding.Moves.{Twice, numbers, q, dealt, zed, mo
 use Rattle.demands.specs.Hiding.Hypotheses.{Given, q-some}
 use Rattle.demands.specs.Hiding.Values.{echo-moved, ready-moved, pair-moved}
 use Rattle.demands.specs.Hiding.SentTwice.{Twin}
-use Rattle.demands.specs.Own.{own-bytes}
+use Rattle.demands.specs.Own.{own-each, each-same}
 
 -- ---- two steps alike
 
@@ -130,14 +130,6 @@ module _ (t : Twice) (i : ℕ) where
   keeping-moved slot p = refl
 
 -- ---- what is sent
-
-pub own-each : (u : SetUp) (i : ℕ) (f : ℕ → Message) → toEach (own u i) f ≡ toEach u f
-unfolding toEach
-own-each u i f = gather-same _ _ (u .n) (λ j l. own-bytes u i (f (j + 1)))
-
-pub each-same : (u : SetUp) (f g : ℕ → Message) → ((j : ℕ) → bytesOf u (f j) ≡ bytesOf u (g j)) → toEach u f ≡ toEach u g
-unfolding toEach
-each-same u f g h = gather-same _ _ (u .n) (λ j l. h (j + 1))
 
 -- a matrix is written as one that agrees with it
 matrix-bytes : (k : ℕ) (C D : List (List Element)) → sameMatrix k C D ≡ true → matrixBytes k C ≡ matrixBytes k D
