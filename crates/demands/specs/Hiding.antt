@@ -35,13 +35,14 @@ use Rattle.rules.specs.Record.{slotAt, matrixOf, countE, countR}
 use Rattle.demands.specs.Histories.{Class, Call, after, Event, deal-at, hand-on, forge, command-at, keeps, mayBreak, own, messageAt, handed, calls, recordOf, answers, seen}
 use Rattle.demands.specs.Histories.Added.{one-call-at-most}
 use Rattle.demands.specs.Sharing.{order}
+use Rattle.demands.specs.Lives.Marks.{unmarked-before}
 use Rattle.demands.specs.Matching.{Few, matching}
 use Moves.{Twice, numbers, inSet, coins′, movedSlot, slot-moved}
 use Hypotheses.{Given, zed-on-set}
 use SentTwice.{set-bytes}
 use Steps.{matrix-moved, e-moved, r-moved}
 use Arrivals.{forged, handed-on}
-use TwoLives.{unmarked-before, Both, both-new, both-deals, both-gets, both-commanded, Sent, both-sent}
+use TwoLives.{Both, both-new, both-deals, both-gets, both-commanded, Sent, both-sent}
 
 -- ---- one script for two deals
 

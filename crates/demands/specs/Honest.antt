@@ -1,20 +1,20 @@
 -- A class in which all boxes keep the rules: whatever order its messages take, what a box holds, keeps and sends is what was dealt.
 --
 -- In the modules below: what is said in such a class (`Messages`); a box whose accepted deals and deliveries are the dealt ones, what it
--- holds (`Holdings`) and what it sends (`Sendings`).
--- Here, in order: such a class and its deals; every accepted delivery is dealt, by induction over the history for all boxes at once; the
--- statements.
+-- holds (`Holdings`), what it sends (`Sendings`) and what it recovers (`Recovered`).
+-- Here, in order: such a class and its deals; where the dealer has dealt there is one deal; every accepted delivery is dealt, by induction
+-- over the history for all boxes at once; the statements.
 -- Assumes nothing.
 pub mod Messages
 pub mod Holdings
 pub mod Sendings
+pub mod Recovered
 use mathlib.Core.Path.{_≡_, sym, ap, _∙_, subst}
 use mathlib.Core.Bool.{true, false, not}
 use mathlib.Core.Logic.{⊎-elim}
 use mathlib.Core.List.{List, [], _∷_}
-use Prim.Native.Nat.{ℕ, _+_, _*_, _-_, _<_, _≤_}
+use Prim.Native.Nat.{ℕ, _+_, _*_, _-_, _<_}
 use native.Mathlib.Decide.{ℕ-discrete}
-use native.Mathlib.Omega.{arith}
 use lib.Dec.{eqb}
 use lib.ListN.{length, getD, replicate}
 use borrow.Author.Tests.{eqb-true}
@@ -27,24 +27,26 @@ use Rattle.rules.specs.declared.Pair.{Pair}
 use Rattle.rules.specs.declared.Point.the-variants.{Held}
 use Rattle.rules.specs.declared.Record.{Record}
 use Rattle.rules.specs.declared.SetUp.{SetUp}
-use Rattle.rules.specs.Numbers.{isBox}
+use Rattle.rules.specs.Numbers.{groupKeeps, isBox, numbersKeep}
 use Rattle.rules.specs.Messages.{messageIn}
-use Rattle.rules.specs.Record.{slotAt, placeAt, shareAt, isThere, matrixOf, sharesKept, sameMatrix}
-use Rattle.rules.specs.Steps.{sharePoints}
-use Rattle.rules.specs.Answers.{setUp, answered, deal, deliver}
+use Rattle.rules.specs.Dealing.{coinsKeep}
+use Rattle.rules.specs.Record.{slotAt, placeAt, shareAt, isThere, matrixOf, sameMatrix}
+use Rattle.rules.specs.Answers.{answered, deliver}
 use Rattle.rules.specs.Laws.Agreement.{agree-self}
 use Rattle.rules.specs.Laws.DemandOne.{outcome-number}
 use Rattle.rules.specs.Laws.Passed.{Passed, rows-passed, DealPassed, deal-passed}
 use Rattle.demands.specs.Histories.{Call, deals, gets, commanded, doing, after, Class, keeps, own, Event, calls, recordOf}
 use Rattle.demands.specs.Histories.Added.{sentBy, Past, past-self, past-more, past-trans, past-none, past-cases, calls-past, carries-earlier}
-use Rattle.demands.specs.Sharing.{dealtMatrix, dealtPoint, dealtShare, shares-give}
-use Rattle.demands.specs.Lives.{shares-say, recovered-from, completed-kept}
+use Rattle.demands.specs.Sharing.{dealtMatrix, dealtPoint, dealtShare}
+use Rattle.demands.specs.Lives.{completed-kept}
+use Rattle.demands.specs.Own.{dealer-box, own-taken}
 use Rattle.demands.specs.Lives.Born.{good, own-setup}
-use Rattle.demands.specs.Lives.Points.{shares-differ}
+use Rattle.demands.specs.Lives.Marks.{deal-zero, one-deal}
 use Rattle.demands.specs.Completeness.{there-some}
-use Messages.{Deal, Dealt, SentDealt, sound, comes-dealt}
-use Holdings.{CallDealt, LifeDealt, is-taken, point-dealt, matrix-dealt, pair-dealt, share-dealt}
+use Messages.{Deal, Dealt, SentDealt, comes-dealt}
+use Holdings.{CallDealt, LifeDealt, is-taken, point-dealt, matrix-dealt, pair-dealt}
 use Sendings.{sendings-dealt}
+use Recovered.{share-dealt, recovered-dealt}
 
 -- ---- such a class, and its deals
 
@@ -61,18 +63,40 @@ DealsOnly c secret coins es =
     → doing (after (own (c .numbers) (c .numbers .d)) before) (deals secret′ coins′ lent) .outcome .answer .no ≡ 0
     → (secret′ ≡ secret) × (coins′ ≡ coins)
 
--- ---- every accepted delivery is dealt
-
 -- a call that is accepted has passed the rows
 deals-passed : (x : Record) (secret : ℕ) (coins : List ℕ) (lent : ℕ) → doing x (deals secret coins lent) .outcome .answer .no ≡ 0
     → DealPassed x secret coins (length {A = ℕ} (replicate lent 0))
-unfolding doing deal answered
-deals-passed x secret coins lent e = deal-passed x secret coins _ (sym (outcome-number _ _ _) ∙ e)
+deals-passed x secret coins lent e = deal-passed x secret coins _ (deal-zero x secret coins lent e)
 
 gets-passed : (x : Record) (sender : ℕ) (bytes : List ℕ) (lent : ℕ) → doing x (gets sender bytes lent) .outcome .answer .no ≡ 0
     → Passed x sender bytes
 unfolding doing deliver answered
 gets-passed x sender bytes lent e = rows-passed x sender bytes _ (sym (outcome-number _ _ _) ∙ e)
+
+-- ---- there is one deal
+
+-- a deal of the dealer was accepted in this history: it is the only one, and its coins are some that a deal takes
+module _ (c : Class) (es : List Event) (secret : ℕ) (coins : List ℕ) (lent : ℕ) (before : List Call)
+    (dealt : Past (deals secret coins lent ∷ before) (calls c es (c .numbers .d)))
+    (accepted : doing (after (own (c .numbers) (c .numbers .d)) before) (deals secret coins lent) .outcome .answer .no ≡ 0) where
+  pub dealt-once : DealsOnly c secret coins es
+  dealt-once secret′ coins′ lent′ before′ p a =
+      one-deal (own (c .numbers) (c .numbers .d)) secret coins lent before secret′ coins′ lent′ before′ _ accepted a dealt p
+
+  pub dealt-keeps : groupKeeps (c .numbers) ≡ true → numbersKeep (own (c .numbers) (c .numbers .d)) ≡ true → Deal (c .numbers) secret coins
+  unfolding coinsKeep
+  dealt-keeps group numbers =
+      let u = c .numbers in
+      record {
+        group-keeps = group;
+        numbers-keep = numbers;
+        coins-keep =
+            subst (λ (v : SetUp). coinsKeep v secret coins ≡ true)
+            (own-setup (own u (u .d)) (own-taken u group numbers (u .d) (dealer-box u group numbers)) before)
+            (deals-passed _ secret coins lent accepted .keeps);
+      }
+
+-- ---- every accepted delivery is dealt
 
 module _ (c : Class) (secret : ℕ) (coins : List ℕ) (h : AllKeep c secret coins) where
   abbrev u : SetUp
@@ -156,12 +180,7 @@ module _ (c : Class) (secret : ℕ) (coins : List ℕ) (h : AllKeep c secret coi
   -- and a kept recovery share its sender's
   pub share-is-dealt : (m : ℕ) (p : Pair) → m < 10 → shareAt (recordOf c es i .shares) m ≡ There p
       → p ≡ dealtShare (c .numbers) secret coins (m + 1)
-  share-is-dealt m p l e =
-      share-dealt (c .numbers) secret coins (h .deal) i box-i (calls c es i) all-accepted-is-dealt (m + 1) p
-      (sym (shares-say (own (c .numbers) i) is-up (calls c es i) m l) ∙ e)
-    where
-      is-up : setUp (own (c .numbers) i) .answer .no ≡ 0
-      is-up = is-taken (c .numbers) secret coins (h .deal) i box-i
+  share-is-dealt = share-dealt (c .numbers) secret coins (h .deal) i box-i (calls c es i) all-accepted-is-dealt
 
   -- so there is one matrix in use at most,
   pub one-matrix : (s r : ℕ) → s < 20 → r < 20 → slotAt (recordOf c es i) s .used ≡ true → slotAt (recordOf c es i) r .used ≡ true → s ≡ r
@@ -189,18 +208,4 @@ module _ (c : Class) (secret : ℕ) (coins : List ℕ) (h : AllKeep c secret coi
   -- and the pair that a box recovers is f(0, 0), f'(0, 0): the secret, and the coin that goes with it
   pub recovered-is-the-secret : (p : Pair) → recordOf c es i .recovered .kept ≡ There p
       → (p .first .0 ≡ secret) × (p .second .0 ≡ getD coins (c .numbers .k * c .numbers .k - 1) 0)
-  recovered-is-the-secret p e =
-      let u = c .numbers in
-      let me = own u i in
-      let up = is-taken u secret coins (h .deal) i box-i in
-      let x = recordOf c es i in
-      let facts = good me up (calls c es i) .facts in
-      let set-up = own-setup me up (calls c es i) in
-      let all = eqb-true (sharesKept (x .shares)) (x .setup .k) (sym (facts .shares .exactly) ∙ ap isThere e) ∙ ap (λ (v : SetUp). v .k) set-up in
-      subst (λ (v : Pair). (v .first .0 ≡ secret) × (v .second .0 ≡ getD coins (u .k * u .k - 1) 0))
-      (sym (recovered-from me up (calls c es i) p e))
-      (shares-give u (sound u secret coins (h .deal)) secret coins (h .deal .coins-keep) (sharePoints (x .shares))
-      (shares-differ u (x .shares) (λ m v. v ≡ dealtShare u secret coins m)
-      (λ m l g. sym (facts .shares .senders m l) ∙ facts .none m 3 l (subst (λ (v : SetUp). v .n ≤ m) (sym set-up) g) (omega arith))
-      (λ m v l g. share-is-dealt m v l g)
-      all))
+  recovered-is-the-secret = recovered-dealt (c .numbers) secret coins (h .deal) i box-i (calls c es i) all-accepted-is-dealt

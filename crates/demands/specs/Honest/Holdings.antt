@@ -1,7 +1,7 @@
--- What a box holds whose accepted deals and deliveries are the dealt ones: dealt points, the dealt share, dealt recovery shares.
+-- What a box holds whose accepted deals and deliveries are the dealt ones: dealt points, and the dealt share.
 --
--- In order: a life in which what was accepted was dealt; what was said; the slots in use and their points; what k of these give, and so
--- the pair kept; the recovery shares.
+-- In order: a life in which what was accepted was dealt; what was said; the slots in use and their points; what k of
+-- these give, and so the pair kept.
 -- Assumes nothing.
 use mathlib.Core.Path.{_≡_, refl, sym, ap, _∙_, subst}
 use mathlib.Core.Bool.{true}
@@ -16,7 +16,6 @@ use Rattle.folds.specs.Tests.{and-left, and-right, or-cases, pick-either, true�
 use Rattle.folds.specs.Below.{anyBelow-here, anyBelow-some}
 use Rattle.rules.specs.declared.Element.{Element}
 use Rattle.rules.specs.declared.Four.{Four}
-use Rattle.rules.specs.declared.Kept.{Kept}
 use Rattle.rules.specs.declared.Kept.the-variants.{There}
 use Rattle.rules.specs.declared.Pair.{Pair}
 use Rattle.rules.specs.declared.Point.{Point}
@@ -27,19 +26,19 @@ use Rattle.rules.specs.declared.Side.{Side}
 use Rattle.rules.specs.declared.Side.the-variants.{ByEcho, ByReady}
 use Rattle.rules.specs.declared.Slot.{Slot}
 use Rattle.rules.specs.Numbers.{isBox}
-use Rattle.rules.specs.Messages.{tagIn, matrixIn, fourIn, pairIn, messageIn}
+use Rattle.rules.specs.Messages.{tagIn, matrixIn, fourIn, messageIn}
 use Rattle.rules.specs.Dealing.{fromCoins, fOf, f′Of, coinsKeep}
 use Rattle.rules.specs.Record.{slotAt, placeAt, isHeld, isThere, held, matrixOf, sameMatrix}
 use Rattle.rules.specs.Steps.{points, pairFrom, readyFour}
 use Rattle.rules.specs.Answers.{setUp}
 use Rattle.rules.specs.Laws.Facts.{SlotFacts, ear}
-use Rattle.rules.specs.Laws.RoundTrip.{is-echo, is-ready, is-recovery}
+use Rattle.rules.specs.Laws.RoundTrip.{is-echo, is-ready}
 use Rattle.rules.specs.Laws.Ranges.{slot-room}
 use Rattle.demands.specs.Histories.{Call, deals, gets, commanded, doing, after, own}
 use Rattle.demands.specs.Histories.Added.{Past, past-self, past-more, past-trans}
 use Rattle.demands.specs.Sharing.{order, size, dealtMatrix, dealtPoint, dealtShare, points-give}
 use Rattle.demands.specs.Own.{own-taken}
-use Rattle.demands.specs.Lives.{checksNow, takesNow, fourOf, said, shareNow, shareSaid, places-say}
+use Rattle.demands.specs.Lives.{checksNow, takesNow, fourOf, said, places-say}
 use Rattle.demands.specs.Lives.Slots.{slotOf, slot-used}
 use Rattle.demands.specs.Lives.Born.{good, own-setup, numbers-keep, facts-at}
 use Rattle.demands.specs.Lives.Counts.{first-cases}
@@ -161,7 +160,7 @@ module _ (u : SetUp) (secret : ℕ) (coins : List ℕ) (h : Deal u secret coins)
 
   -- ---- what k points give
 
-  coins-own : coinsKeep me secret coins ≡ true
+  pub coins-own : coinsKeep (own u i) secret coins ≡ true
   unfolding coinsKeep
   coins-own = h .coins-keep
 
@@ -195,30 +194,3 @@ module _ (u : SetUp) (secret : ℕ) (coins : List ℕ) (h : Deal u secret coins)
         pair-holds me is-taken (matrixOf (slotAt (after me cs) s)) (λ v. v ≡ dealtShare u secret coins i) cs
         (λ now q kept passes. slot-gives now (life-past u secret coins i now cs q dealt) _ kept .1) p
         (ap (λ (w : Slot). w .pair .kept) here ∙ e)
-
-  -- ---- the recovery shares
-
-  -- a share that is checked now
-  share-now : (x : Record) (m from : ℕ) (bytes : List ℕ) (lent : ℕ) → CallDealt u secret coins i x (gets from bytes lent)
-      → shareNow x (gets from bytes lent) m ≡ true → pairIn bytes ≡ dealtShare u secret coins m
-  unfolding shareNow
-  share-now x m from bytes lent dealt e =
-      let e1 = and-right (eqb (doing x (gets from bytes lent) .outcome .answer .no) 0) _ e in
-      let it : tagIn bytes ≡ 4 = eqb-true (tagIn bytes) 4 (and-right (eqb from m) _ e1) in
-      let is : pairIn bytes ≡ dealtShare u secret coins from = rw (is-recovery u bytes it) at (dealt (eqb-true _ 0 (and-left _ _ e))) in
-      is ∙ ap (dealtShare u secret coins) (eqb-true from m (and-left _ _ e1))
-
-  pub share-dealt : (cs : List Call) → LifeDealt u secret coins i cs → (m : ℕ) (p : Pair) → shareSaid (own u i) cs m ≡ There p
-      → p ≡ dealtShare u secret coins m
-  unfolding shareSaid shareNow
-  share-dealt [] dealt m p e = let z : _≡_ {A = ℕ} 0 1 = cc in absurd (omega arith)
-  share-dealt (deals s c lent ∷ cs) dealt m p e = share-dealt cs (life-before u secret coins i _ cs dealt) m p e
-  share-dealt (commanded lent ∷ cs) dealt m p e = share-dealt cs (life-before u secret coins i _ cs dealt) m p e
-  share-dealt (gets from bytes lent ∷ cs) dealt m p e =
-      pick-either (λ (v : Kept). v ≡ There p → p ≡ dealtShare u secret coins m) (shareNow (after me cs) (gets from bytes lent) m)
-      (There (pairIn bytes)) (shareSaid me cs m)
-      (λ now q.
-      let same : pairIn bytes ≡ p = cc in
-      sym same ∙ share-now (after me cs) m from bytes lent (dealt (gets from bytes lent) cs (past-self _)) now)
-      (λ not-now. share-dealt cs (life-before u secret coins i _ cs dealt) m p)
-      e
