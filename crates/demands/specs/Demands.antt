@@ -32,15 +32,13 @@ use Rattle.rules.specs.Laws.Shape.{Shaped}
 use Rattle.demands.specs.Terms.Histories.{Call, gets, commanded, doing, after, answers, wrote, Class, own, Event}
 use Rattle.demands.specs.Terms.Dealing.{group, order, Sound, dealtPoint, dealtShare, Different}
 use Rattle.demands.specs.Sharing as Sharing
-use Rattle.demands.specs.Terms.Lives.{checked, said, shareSaid, eOf, rOf, keptFor, lowestFor, readiesSent, howMany, isEcho}
+use Rattle.demands.specs.Terms.Lives.{checked, said, shareSaid, eOf, rOf, keptFor, lowestFor, readiesSent, howMany, isEcho, answerTo}
 use Rattle.demands.specs.Lives as Lives
-use Rattle.demands.specs.Terms.Lives.{checked, said, shareSaid, eOf, rOf, keptFor, lowestFor, isEcho, howMany, readiesSent, answerTo}
 use Rattle.demands.specs.Completeness as Completeness
 use Rattle.demands.specs.Terms.Sheet.{numbers, matrix, says, verified, secret, Opens}
 use Rattle.demands.specs.SheetOpens as SheetOpens
-use Rattle.demands.specs.Terms.Secrets.{Few, matching}
-use Rattle.demands.specs.Matching as Matching
 use Rattle.demands.specs.Terms.Secrets.{Few, matching, played, Uncommanded, Alike}
+use Rattle.demands.specs.Matching as Matching
 use Rattle.demands.specs.Hiding as Hiding
 
 -- ==== DEMAND 2

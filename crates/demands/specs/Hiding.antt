@@ -4,7 +4,7 @@
 -- polynomials and points (`Values`); no check sees a move, and to the set there is none (`Unseen`); what a box sends in two runs
 -- (`SentTwice`); the steps (`Steps`) and calls (`Outcomes`) of a moved record; a message that comes in (`Arrivals`, `Deliveries`); the
 -- deal (`Dealt`); ready is sent for the dealt matrix alone (`Ripe`); one box in two runs (`TwoLives`).
--- Here: one script for two deals; no recovery has been commanded; two histories that look the same; the two runs, box by box; what the
+-- Here: no recovery has been commanded; the two runs, box by box; what the
 -- set sees, and what the others hold; the statement; the same of a set that answers to what it has seen.
 -- Assumes nothing.
 pub mod Moves
@@ -21,60 +21,47 @@ pub mod Ripe
 pub mod TwoLives
 use mathlib.Core.Path.{_≡_, refl, sym, ap, ap₂, _∙_, subst}
 use mathlib.Core.Bool.{Bool, true, false, not}
-use mathlib.Core.Logic.{inl, inr}
+use mathlib.Core.Logic.{inl, inr, ⊎-elim}
 use mathlib.Core.List.{List, [], _∷_, _++_}
 use Prim.Native.Nat.{ℕ, zero, suc, _<_}
 use lib.Dec.{eqb}
 use borrow.Author.Tests.{eqb-true, not-true}
-use Rattle.folds.specs.Tests.{_and_, pick, and-left, and-right, pick-either, pick-two}
+use Rattle.folds.specs.Tests.{_and_, pick, and-left, and-right, pick-two}
 use Rattle.rules.specs.declared.Record.{Record}
 use Rattle.rules.specs.declared.SetUp.{SetUp}
 use Rattle.rules.specs.Numbers.{groupKeeps, isBox, numbersKeep}
 use Rattle.rules.specs.Dealing.{coinsKeep}
 use Rattle.rules.specs.Record.{slotAt, matrixOf, countE, countR}
-use Rattle.demands.specs.Terms.Histories.{Call, deals, gets, commanded, after, Class, keeps, mayBreak, own, Event, deal-at, hand-on, forge, command-at, messageAt, handed, calls, recordOf, seen}
+use Rattle.demands.specs.Terms.Histories.{Call, deals, commanded, after, Class, keeps, mayBreak, own, Event, deal-at, hand-on, forge, command-at, messageAt, handed, calls, recordOf, seen}
 use Rattle.demands.specs.Terms.Dealing.{group, order}
 use Rattle.demands.specs.Terms.Secrets.{Few, matching, dealing, played, Uncommanded, Alike, Strategy, scriptBy}
+use Rattle.demands.specs.Histories.{one-call-at-most}
+use Rattle.demands.specs.Lives.Marks.{unmarked-before}
+use Rattle.demands.specs.Own.{own-taken}
 use Moves.{Twice, numbers, inSet, coins′, movedSlot, slot-moved}
 use Hypotheses.{Given, zed-on-set}
 use SentTwice.{set-bytes}
 use Steps.{matrix-moved, e-moved, r-moved}
 use Arrivals.{forged, handed-on}
-use TwoLives.{unmarked-before, Both, both-new, both-deals, both-refused, both-gets, both-commanded, Sent, both-sent}
-
--- ---- one script for two deals
+use TwoLives.{Both, both-new, both-deals, both-refused, both-gets, both-commanded, Sent, both-sent}
 
 -- ---- no recovery has been commanded
 
--- nor had one before the last event
-earlier : (c : Class) (e : Event) (es : List Event) → Uncommanded c (e ∷ es) → Uncommanded c es
-unfolding calls
-earlier c e es h i k = go e (h i k)
+-- nor had been before the last event
+earlier : (c : Class) → groupKeeps (c .numbers) ≡ true → numbersKeep (own (c .numbers) (c .numbers .d)) ≡ true
+    → (e : Event) (es : List Event) → Uncommanded c (e ∷ es) → Uncommanded c es
+unfolding keeps
+earlier c group numbers e es h i k =
+    ⊎-elim
+    (λ q. subst Unmarked q (h i k))
+    (λ w. unmarked-before u (own-taken (c .numbers) group numbers i (and-left _ _ k)) (w .0) (calls c es i) (subst Unmarked (w .1) (h i k)))
+    (one-call-at-most c es i e)
   where
     u : SetUp
     u = own (c .numbers) i
 
-    Before : List Call → Type 0
-    Before cs = after u cs .progress .commanded ≡ false → after u (calls c es i) .progress .commanded ≡ false
-
-    one : (call : Call) → Before (call ∷ calls c es i)
-    one call = unmarked-before u call (calls c es i)
-
-    any : (from lent : ℕ) (l : List (List ℕ)) → Before (handed from lent l ++ calls c es i)
-    any from lent [] m = m
-    any from lent (bytes ∷ l) m = one (gets from bytes lent) m
-
-    go : (e : Event) → Before (calls c (e ∷ es) i)
-    go (deal-at at secret coins lent) =
-        pick-either Before (eqb at i and keeps c i) _ _ (λ e. one (deals secret coins lent)) (λ e m. m)
-    go (hand-on from to place lent) =
-        pick-either Before (eqb to i and keeps c i and keeps c from) _ _
-        (λ e. any from lent (messageAt (own (c .numbers) from) (calls c es from) to place)) (λ e m. m)
-    go (forge from to bytes lent) =
-        pick-either Before (eqb to i and keeps c i and not (keeps c from)) _ _ (λ e. one (gets from bytes lent)) (λ e m. m)
-    go (command-at at lent) = pick-either Before (eqb at i and keeps c i) _ _ (λ e. one (commanded lent)) (λ e m. m)
-
--- ---- two histories that look the same
+    Unmarked : List Call → Type 0
+    Unmarked cs = after u cs .progress .commanded ≡ false
 
 -- ---- the two runs, box by box
 
@@ -95,7 +82,7 @@ module _ (t : Twice) (h : Given t) where
 
   before : (e : Event) (es : List Event) → Uncommanded (t .class) (first (e ∷ es)) → Uncommanded (t .class) (first es)
   unfolding played
-  before e es = earlier (t .class) (dealing (numbers t) (t .s) (t .coins) e) (first es)
+  before e es = earlier (t .class) (h .group-keeps) (h .numbers-keep) (dealing (numbers t) (t .s) (t .coins) e) (first es)
 
   -- a deal of the script: the run's own, or one that both refuse
   dealt-linked : (i : ℕ) → isBox (numbers t) i ≡ true → (cs cs′ : List Call) → Both t i cs cs′ → (s : ℕ) (l : List ℕ) (lent : ℕ) (own : Bool)
@@ -236,7 +223,7 @@ hides-adaptively c group numbers few dealer s s′ low low′ coins keep strateg
     same : (n : ℕ) → Uncommanded c (run (scriptBy c strategy s coins n)) → scriptBy c strategy s coins n ≡ scriptBy c strategy s′ coins* n
     same zero u = refl
     same (suc n) u =
-        let before = earlier c _ (run (scriptBy c strategy s coins n)) u in
+        let before = earlier c group numbers _ (run (scriptBy c strategy s coins n)) u in
         let es = same n before in
         ap₂ (λ (saw : List (List ℕ)) (script : List Event). strategy n saw ∷ script)
         (looks (scriptBy c strategy s coins n) before .bytes ∙ ap (λ (script : List Event). seen c (run′ script)) es) es

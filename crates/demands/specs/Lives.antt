@@ -1,8 +1,8 @@
 -- The life of a box that keeps the rules, whatever it is told and sent: demand 2 over histories from set-up.
 --
 -- In the modules below: the terms (`Terms`); what a box holds for a matrix, as one slot (`Slots`, `Replaced`); the steps of checked
--- messages (`Stepped`, `Took`); any call taken apart (`Turns`, `Deliveries`), and seen from one matrix (`Seen`); a life from its beginning (`Born`), and by induction over it each topic (`Counts`, `Points`, `Readies`, `Once`,
--- `Recovered`). Here: the statements.
+-- messages (`Stepped`, `Took`); any call taken apart (`Turns`, `Deliveries`), and seen from one matrix (`Seen`); a life from its beginning
+-- (`Born`), and by induction over it each topic (`Counts`, `Points`, `Readies`, `Once`, `Marks`, `Recovered`). Here: the statements.
 -- Assumes nothing.
 pub mod Slots
 pub mod Replaced
@@ -20,6 +20,7 @@ pub mod Completed
 pub mod Commands
 pub mod Origins
 pub mod Sent
+pub mod Marks
 pub mod Recovered
 use mathlib.Core.Path.{_≡_, refl, sym, ap, _∙_, subst}
 use mathlib.Core.Bool.{true, false}

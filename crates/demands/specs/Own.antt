@@ -1,7 +1,7 @@
--- What the bytes of a message go by: the numbers that the whole session shares, not the number of the box that writes or reads it;
--- and the first k rows and columns of its matrix.
+-- The numbers that the whole session shares, under a box's own number: each box is taken at set-up; and the bytes of a message go by the
+-- shared ones, not by the number of the box that writes or reads it, and by the first k rows and columns of its matrix.
 --
--- In order: one message; a message to each box.
+-- In order: each box is taken; one message; a message to each box.
 -- Assumes nothing.
 use mathlib.Core.Path.{_≡_, refl, ap}
 use mathlib.Core.Bool.{true}
@@ -13,9 +13,37 @@ use Rattle.rules.specs.declared.Four.{Four}
 use Rattle.rules.specs.declared.SetUp.{SetUp}
 use Rattle.rules.specs.Messages.{Message, send, echo, ready, recovery, twoBytes, matrixBytes, polynomialBytes, fourBytes, tagOf, bodyOf, framed, bytesOf, toEach, matrixIn, polynomialsIn, fourIn, messageIn}
 use Rattle.rules.specs.Record.{sameMatrix}
-use Rattle.rules.specs.Answers.{exponentsKeep}
+use Rattle.rules.specs.Answers.{exponentsKeep, setUp, setUpRows, outcomeOf, accepted, firstRow}
 use Rattle.rules.specs.Laws.Sound.{agree-at}
 use Rattle.demands.specs.Terms.Histories.{own}
+use Rattle.folds.specs.Tests.{and-left, and-right, and-intro}
+use Rattle.rules.specs.Numbers.{groupKeeps, sizesKeep, isBox, numbersKeep}
+use Rattle.demands.specs.Terms.Dealing.{Sound}
+
+-- ---- each box is taken
+
+-- numbers that keep their rules under the dealer's number
+module _ (u : SetUp) (group : groupKeeps u ≡ true) (numbers : numbersKeep (own u (u .d)) ≡ true) where
+  pub own-sound : Sound u
+  unfolding numbersKeep
+  own-sound = record { group-keeps = group; sizes-keep = and-left _ _ numbers }
+
+  pub own-keeps : (i : ℕ) → isBox u i ≡ true → numbersKeep (own u i) ≡ true
+  unfolding numbersKeep isBox
+  own-keeps i e =
+      let a = and-left (sizesKeep (u .n) (u .t) (u .k)) _ numbers in
+      let b = and-right (sizesKeep (u .n) (u .t) (u .k)) _ numbers in
+      and-intro _ _ a (and-intro _ _ e (and-right (isBox u (u .d)) _ b))
+
+  pub dealer-box : isBox u (u .d) ≡ true
+  unfolding numbersKeep isBox
+  dealer-box = and-left _ _ (and-right (sizesKeep (u .n) (u .t) (u .k)) _ numbers)
+
+  pub own-taken : (i : ℕ) → isBox u i ≡ true → setUp (own u i) .answer .no ≡ 0
+  unfolding setUp setUpRows firstRow outcomeOf accepted groupKeeps
+  own-taken i e = rw (group, own-keeps i e)
+
+-- ---- one message
 
 pub own-bytes : (u : SetUp) (i : ℕ) (m : Message) → bytesOf (own u i) m ≡ bytesOf u m
 unfolding bytesOf bodyOf polynomialBytes

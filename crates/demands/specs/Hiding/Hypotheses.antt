@@ -7,16 +7,17 @@ use mathlib.Core.Path.{_≡_}
 use mathlib.Core.Bool.{true, false}
 use Prim.Native.Nat.{ℕ, _*_, _<_, _%_}
 use native.Mathlib.Nat.{mod-lt}
-use Rattle.folds.specs.Tests.{and-left, and-right, and-intro}
 use Rattle.algebra.specs.Residues.{Prime}
 use Rattle.rules.specs.declared.Polynomials.{Polynomials}
-use Rattle.rules.specs.Numbers.{groupKeeps, sizesKeep, isBox, numbersKeep}
+use Rattle.rules.specs.Numbers.{groupKeeps, isBox, numbersKeep}
 use Rattle.rules.specs.Matrices.{coefficient}
 use Rattle.rules.specs.Dealing.{coinsKeep, committed}
-use Rattle.rules.specs.Answers.{setUp, setUpRows, outcomeOf, accepted, firstRow}
+use Rattle.rules.specs.Answers.{setUp}
 use Rattle.rules.specs.Laws.Numbers.{Sizes, is-box}
 use Rattle.rules.specs.Laws.RoundTrip.{SetUpFits, setup-fits}
 use Rattle.demands.specs.Terms.Histories.{own}
+use Rattle.demands.specs.Own
+use Rattle.demands.specs.Own.{own-sound}
 use Rattle.demands.specs.Sharing
 use Rattle.demands.specs.Terms.Dealing.{group, Sound, dealtMatrix, dealtTo}
 use Rattle.demands.specs.Sharing.{rule, order-some}
@@ -39,8 +40,7 @@ pub record Given (t : Twice) : Type 0 where
 
 module _ (t : Twice) (h : Given t) where
   pub sound-numbers : Sound (numbers t)
-  unfolding numbersKeep
-  sound-numbers = record { group-keeps = h .group-keeps; sizes-keep = and-left _ _ (h .numbers-keep) }
+  sound-numbers = own-sound (numbers t) (h .group-keeps) (h .numbers-keep)
 
   pub size : Sizes (numbers t .n) (numbers t .t) (numbers t .k)
   size = Sharing.size (numbers t) sound-numbers
@@ -56,23 +56,14 @@ module _ (t : Twice) (h : Given t) where
 
   -- ---- every box is taken
 
-  pub own-keeps : (i : ℕ) → isBox (numbers t) i ≡ true → numbersKeep (own (numbers t) i) ≡ true
-  unfolding numbersKeep isBox
-  own-keeps i e =
-      let a = and-left (sizesKeep (numbers t .n) (numbers t .t) (numbers t .k)) _ (h .numbers-keep) in
-      let b = and-right (sizesKeep (numbers t .n) (numbers t .t) (numbers t .k)) _ (h .numbers-keep) in
-      and-intro _ _ a (and-intro _ _ e (and-right (isBox (numbers t) (numbers t .d)) _ b))
-
   pub dealer-box : isBox (numbers t) (numbers t .d) ≡ true
-  unfolding numbersKeep isBox
-  dealer-box = and-left _ _ (and-right (sizesKeep (numbers t .n) (numbers t .t) (numbers t .k)) _ (h .numbers-keep))
+  dealer-box = Own.dealer-box (numbers t) (h .group-keeps) (h .numbers-keep)
 
   pub own-fits : (i : ℕ) → isBox (numbers t) i ≡ true → SetUpFits (own (numbers t) i)
-  own-fits i e = setup-fits (own (numbers t) i) (own-keeps i e)
+  own-fits i e = setup-fits (own (numbers t) i) (Own.own-keeps (numbers t) (h .group-keeps) (h .numbers-keep) i e)
 
   pub own-taken : (i : ℕ) → isBox (numbers t) i ≡ true → setUp (own (numbers t) i) .answer .no ≡ 0
-  unfolding setUp setUpRows firstRow outcomeOf accepted groupKeeps
-  own-taken i e = rw (h .group-keeps, own-keeps i e)
+  own-taken = Own.own-taken (numbers t) (h .group-keeps) (h .numbers-keep)
 
   -- ---- the matching coins
 

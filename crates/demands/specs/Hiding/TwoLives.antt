@@ -1,33 +1,28 @@
 -- One box in two runs: its record moved, its answers the same, what it sent moved.
 --
--- In order: the mark of a command never goes back; a command that leaves no mark; the two lives of a box, from set-up, and one call
--- more; a message that it has sent.
+-- In order: a command that leaves no mark; the two lives of a box, from set-up, and one call more; a message that it has sent.
 -- Assumes nothing.
 use mathlib.Core.Path.{_≡_, refl, sym, ap, ap₂, _∙_, subst}
-use mathlib.Core.Bool.{Bool, true, false, Bool}
+use mathlib.Core.Bool.{Bool, true, false}
 use mathlib.Core.Logic.{_⊎_, inl, inr, ⊎-elim}
 use mathlib.Core.List.{List, [], _∷_, _++_, append-nil}
-use Prim.Native.Nat.{ℕ, _-_}
+use Prim.Native.Nat.{ℕ}
 use lib.Dec.{eqb, ltb}
 use lib.ListN.{length, getD, replicate}
 use borrow.Author.Tests.{eq-eqb, ltb-true}
-use Rattle.folds.specs.Tests.{pick, decide, pick-either, true≢false}
+use Rattle.folds.specs.Tests.{pick, decide, true≢false}
 use Rattle.folds.specs.Stores.{mapFrom}
 use Rattle.rules.specs.declared.Answer.{Answer}
-use Rattle.rules.specs.declared.Keep.{Keep}
 use Rattle.rules.specs.declared.Record.{Record}
 use Rattle.rules.specs.declared.SetUp.{SetUp}
-use Rattle.rules.specs.declared.Slot.{Slot}
 use Rattle.rules.specs.Numbers.{isBox}
-use Rattle.rules.specs.Messages.{Message, send, echo, ready, recovery, tagIn, messageIn, bytesOf}
+use Rattle.rules.specs.Messages.{Message, bytesOf}
 use Rattle.rules.specs.Dealing.{coinsKeep}
-use Rattle.rules.specs.Record.{sharesKept, zeroSlot, newRecord, sound}
-use Rattle.rules.specs.Steps.{Step, heard, withSlot, withShares, quiet, lowest, sendStep, readySent, completing, completed, recovering, shareStep, messageStep, dealStep, recoverStep, completionDue, pointAt, pointStep, readyDue}
-use Rattle.rules.specs.Answers.{firstOf, Done, accepted, refused, answered, dealRows, deal, recoverRows, recover, deliverRows, refusalHeard, deliver, ownRecoverRows, Refusal, firstRow}
+use Rattle.rules.specs.Record.{zeroSlot, newRecord, sound}
+use Rattle.rules.specs.Steps.{recoverStep}
+use Rattle.rules.specs.Answers.{firstOf, Done, accepted, recoverRows, recover, ownRecoverRows, Refusal, firstRow}
 use Rattle.rules.specs.Laws.Numbers.{is-box}
-use Rattle.rules.specs.Laws.DemandOne.{answered-accepted, answered-either}
-use Rattle.rules.specs.declared.Side.{Side}
-use Rattle.rules.specs.declared.Side.the-variants.{ByEcho, ByReady}
+use Rattle.rules.specs.Laws.DemandOne.{answered-accepted}
 use Rattle.demands.specs.Terms.Histories.{Call, deals, gets, commanded, own, doing, after, answers, wrote, sendings, messageTo, messageAt}
 use Rattle.demands.specs.Lives.{life-sound}
 use Rattle.demands.specs.Lives.Born.{born}
@@ -40,78 +35,13 @@ use Rattle.demands.specs.Hiding.Deliveries.{deliver-alike}
 use Rattle.demands.specs.Hiding.Dealt.{deal-alike, refused-alike}
 use Rattle.demands.specs.Hiding.Ripe.{Honest, ripe-if-sent}
 
--- ---- the mark never goes back
-
-module _ (x : Record) where
-  abbrev Still : Record → Type 0
-  Still y = y .progress .commanded ≡ x .progress .commanded
-
-  abbrev StepStill : Step → Type 0
-  StepStill st = Still (st .after)
-
-  point-still : (b : Side) (y : Record) (s : ℕ) (slot : Slot) → Still y → StepStill (pointAt b y s slot)
-  unfolding pointAt readySent completed completing
-  point-still b y s slot e =
-      pick-either StepStill (readyDue (y .setup) b slot) (readySent y s slot (lowest y slot)) _ (λ w. e)
-      (λ w. pick-either StepStill (completionDue (y .setup) b slot)
-      (completed (withSlot y s slot) s) (quiet (withSlot y s slot)) (λ w. e) (λ w. e))
-
-  share-still : (y : Record) (shares : List Keep) → Still y → StepStill (recovering y shares)
-  unfolding recovering
-  share-still y shares e =
-      pick-either StepStill (eqb (sharesKept shares) (y .setup .k)) _ (quiet (withShares y shares (y .recovered))) (λ b. e) (λ b. e)
-
-  message-still : (m : ℕ) (msg : Message) → StepStill (messageStep x m msg)
-  unfolding heard sendStep pointStep shareStep
-  message-still m (send C P) = refl
-  message-still m (echo C f) = point-still ByEcho (heard x 2 m) _ _ refl
-  message-still m (ready C f) = point-still ByReady (heard x 3 m) _ _ refl
-  message-still m (recovery s) = share-still (heard x 4 m) _ refl
-
-  answered-still : (n : ℕ) (st : Step) (y : Record) (buffer : List ℕ) → StepStill st → Still y
-      → Still (answered n st y buffer .outcome .next)
-  unfolding accepted refused
-  answered-still n st y buffer a b = answered-either n st y buffer (λ (d : Done). Still (d .outcome .next)) (λ e. a) (λ z. b)
-
-  deliver-still : (from : ℕ) (bytes buffer : List ℕ) → Still (deliver x from bytes buffer .outcome .next)
-  unfolding deliver refusalHeard heard
-  deliver-still from bytes buffer =
-      let n : ℕ = firstOf (deliverRows x from bytes (length buffer)) in
-      let msg : Message = messageIn (x .setup) bytes in
-      let m : Bool = firstRow (deliverRows x from bytes (length buffer)) .marks in
-      answered-still n (messageStep x (from - 1) msg) (refusalHeard m x from bytes) buffer (message-still (from - 1) msg)
-      (pick-either Still m (heard x (tagIn bytes) (from - 1)) x (λ e. refl) (λ e. refl))
-
-  deal-still : (secret : ℕ) (coins buffer : List ℕ) → Still (deal x secret coins buffer .outcome .next)
-  unfolding deal dealStep
-  deal-still secret coins buffer = answered-still (firstOf (dealRows x secret coins (length buffer))) (dealStep x secret coins) x buffer refl refl
-
-  -- a command that is taken marks
-  taken-marks : (buffer : List ℕ) → firstOf (recoverRows x (length buffer)) ≡ 0 → recover x buffer .outcome .next .progress .commanded ≡ true
-  unfolding recover recoverStep accepted
-  taken-marks buffer e =
-      ap (λ (d : Done). d .outcome .next .progress .commanded) (answered-accepted (firstOf (recoverRows x (length buffer))) (recoverStep x) x buffer e)
-
-  recover-unmarked : (buffer : List ℕ) → recover x buffer .outcome .next .progress .commanded ≡ false → x .progress .commanded ≡ false
-  unfolding recover recoverStep accepted refused
-  recover-unmarked buffer =
-      answered-either (firstOf (recoverRows x (length buffer))) (recoverStep x) x buffer
-      (λ (d : Done). d .outcome .next .progress .commanded ≡ false → x .progress .commanded ≡ false)
-      (λ e marked. absurd (true≢false marked)) (λ z unmarked. unmarked)
-
-  call-unmarked : (c : Call) → doing x c .outcome .next .progress .commanded ≡ false → x .progress .commanded ≡ false
-  unfolding doing
-  call-unmarked (deals secret coins lent) e = sym (deal-still secret coins (replicate lent 0)) ∙ e
-  call-unmarked (gets from bytes lent) e = sym (deliver-still from bytes (replicate lent 0)) ∙ e
-  call-unmarked (commanded lent) e = recover-unmarked (replicate lent 0) e
-
--- without a mark after a call there was none before it
-pub unmarked-before : (u : SetUp) (c : Call) (cs : List Call) → after u (c ∷ cs) .progress .commanded ≡ false
-    → after u cs .progress .commanded ≡ false
-unfolding after
-unmarked-before u c cs = call-unmarked (after u cs) c
-
 -- ---- a command that leaves no mark
+
+-- one that is taken leaves one
+taken-marks : (x : Record) (buffer : List ℕ) → firstOf (recoverRows x (length buffer)) ≡ 0 → recover x buffer .outcome .next .progress .commanded ≡ true
+unfolding recover recoverStep accepted
+taken-marks x buffer e =
+    ap (λ (d : Done). d .outcome .next .progress .commanded) (answered-accepted (firstOf (recoverRows x (length buffer))) (recoverStep x) x buffer e)
 
 -- it is refused, by the same row in both runs
 module _ (t : Twice) (i : ℕ) (x : Record) (hx : sound x ≡ true) (hy : sound (movedRecord t i x) ≡ true) (buffer : List ℕ) where

@@ -33,7 +33,7 @@ use Rattle.demands.specs.Terms.Histories.{Call, deals, commanded, doing,
 use Rattle.demands.specs.Terms.Dealing.{sendsOf}
 use Rattle.demands.specs.Terms.Lives.{isSend, isRecovery, howMany, Writes}
 use Rattle.demands.specs.Lives.Born.{good, own-setup}
-use Rattle.demands.specs.Lives.Once.{dealt-counts, commanded-counts}
+use Rattle.demands.specs.Lives.Marks.{dealt-counts, commanded-counts}
 
 -- ---- the sends of a deal
 

@@ -38,7 +38,8 @@ use Rattle.demands.specs.Lives.Turns.{next}
 use Rattle.demands.specs.Lives.Seen.{View, aside, touched, view}
 use Rattle.demands.specs.Lives.Born.{good, own-setup, slot-born}
 
-first-cases : (p : Point) (g f : Four) → firstPoint p g ≡ Held f → (p ≡ Held f) ⊎ (g ≡ f)
+-- a first point is the one that was there, or the one that came
+pub first-cases : (p : Point) (g f : Four) → firstPoint p g ≡ Held f → (p ≡ Held f) ⊎ (g ≡ f)
 first-cases Silent g f e = inr (cc)
 first-cases (Held h) g f e = inl e
 

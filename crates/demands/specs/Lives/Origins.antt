@@ -1,6 +1,6 @@
 -- What stands behind each message that a box sends: an honest deal, a checked send, k checked points, a kept pair.
 --
--- In order: what it is, by the kind of message; an answer and its bytes; the commands; a delivery; any call.
+-- In order: what it is, by the kind of message; an answer and its bytes; the commands; a delivery; any call; a call that wrote.
 -- Assumes nothing.
 use mathlib.Core.Path.{_≡_, refl, sym, ap, _∙_, subst}
 use mathlib.Core.Bool.{Bool, true}
@@ -36,8 +36,7 @@ use Rattle.rules.specs.Laws.Agreement.{agree-self}
 use Rattle.rules.specs.Laws.Passed.{Passed, deal-passed, recover-passed}
 use Rattle.rules.specs.Laws.Kept.Changes.{Good}
 use Rattle.demands.specs.Terms.Histories.{Call, deals, gets, commanded, doing, wrote}
-use Rattle.demands.specs.Terms.Dealing.{group, order}
-use Rattle.demands.specs.Terms.Dealing.{sendsOf}
+use Rattle.demands.specs.Terms.Dealing.{group, order, sendsOf}
 use Rattle.demands.specs.Lives.Commands.{deal-sends}
 use Rattle.demands.specs.Lives.Stepped.{stepOf, paired}
 use Rattle.demands.specs.Lives.Slots.{Has}
@@ -58,23 +57,23 @@ Spoken u x c Send run =
     × (coinsKeep u secret coins ≡ true)
     × (u .i ≡ u .d)
     × (run ≡ sendsOf u secret coins)
-    × ((lent : ℕ) × (c ≡ deals secret coins lent))
+    × (lent : ℕ) × (c ≡ deals secret coins lent)
 Spoken u x c Echo run =
     (bytes : List ℕ)
     × (matrixPasses (group u) (u .k) (matrixIn u bytes) ≡ true)
     × (polynomialCheck (group u) (u .k) (matrixIn u bytes) (u .i) (polynomialsIn u bytes) ≡ true)
     × (run ≡ toEach u (λ j. echo (matrixIn u bytes) (echoFour (order u) (u .k) (polynomialsIn u bytes) j)))
-    × ((sender lent : ℕ) × (c ≡ gets sender bytes lent) × (tagIn bytes ≡ 1))
+    × (sender lent : ℕ) × (c ≡ gets sender bytes lent) × (tagIn bytes ≡ 1)
 Spoken u x c Ready run =
     (s : ℕ)
     × (s < 20)
     × (isThere (slotAt (next x c) s .pair .kept) ≡ true)
     × (run ≡ toEach u (readyOf u (slotAt (next x c) s)))
-    × ((sender lent : ℕ) × (bytes : List ℕ) × (c ≡ gets sender bytes lent) × Has (next x c) (matrixIn u bytes) s)
+    × (sender lent : ℕ) × (bytes : List ℕ) × (c ≡ gets sender bytes lent) × Has (next x c) (matrixIn u bytes) s
 Spoken u x c Recovery run =
     (run ≡ shareBytes u (completedShare x (x .progress .completion)))
     × (isDone (x .progress .completion) ≡ true)
-    × ((lent : ℕ) × (c ≡ commanded lent))
+    × (lent : ℕ) × (c ≡ commanded lent)
 
 -- ---- an answer and its bytes
 
@@ -101,14 +100,14 @@ module _ (x : Record) where
       let c = deal-passed x secret coins (length {A = ℕ} (replicate lent 0)) e in
       let sends = deal-sends x secret coins in
       rw (sends .0)
-      (secret, coins, c .keeps, eqb-true (x .setup .i) (x .setup .d) (c .dealer), sends .1, (lent, refl)))
+      (secret, coins, c .keeps, eqb-true (x .setup .i) (x .setup .d) (c .dealer), sends .1, lent, refl))
 
   commanded-spoken : (lent : ℕ)
       → Spoken (x .setup) x (commanded lent) (doing x (commanded lent) .outcome .answer .sent) (wrote (doing x (commanded lent)))
   unfolding doing recover recoverStep
   commanded-spoken lent =
       answered-holds (Spoken (x .setup) x (commanded lent)) _ (recoverStep x) x (replicate lent 0) refl
-      (λ e. (refl, recover-passed x (length {A = ℕ} (replicate lent 0)) e .completed, (lent, refl)))
+      (λ e. (refl, recover-passed x (length {A = ℕ} (replicate lent 0)) e .completed, lent, refl))
 
   -- ---- a delivery
 
@@ -152,7 +151,11 @@ module _ (x : Record) where
             found .within,
             ap (λ (w : Slot). isThere (w .pair .kept)) now,
             ap (λ (w : Slot). toEach (x .setup) (readyOf (x .setup) w)) (sym now),
-            (sender, lent, bytes, refl, now-has),
+            sender,
+            lent,
+            bytes,
+            refl,
+            now-has,
           )
 
     step-tells : (b : Side) (f : Four) → doing x it .outcome ≡ accepted (stepOf b x (sender - 1) (matrixIn (x .setup) bytes) f)
@@ -179,7 +182,7 @@ module _ (x : Record) where
       unfolding sendStep heard
       message-tells =
           by-tag u bytes (came .hearing .form)
-          (λ h. of _ (is-send u bytes h) (bytes, came .passes (omega arith), rw (is-send u bytes h) at (came .check), refl, (sender, lent, refl, h)))
+          (λ h. of _ (is-send u bytes h) (bytes, came .passes (omega arith), rw (is-send u bytes h) at (came .check), refl, sender, lent, refl, h))
           (λ h. of _ (is-echo u bytes h)
           (step-tells ByEcho _ (out-message x g sender bytes lent e _ (is-echo u bytes h))
           (room x (sender - 1) _ (facts-sound x (g .facts)) (came .hearing .within) ByEcho (rw h at (came .hearing .unheard)))))
@@ -206,3 +209,21 @@ pub spoken : (x : Record) → Good x → (c : Call) → Spoken (x .setup) x c (d
 spoken x g (deals secret coins lent) = deals-spoken x secret coins lent
 spoken x g (gets sender bytes lent) = gets-spoken x g sender bytes lent
 spoken x g (commanded lent) = commanded-spoken x lent
+
+-- ---- a call that wrote
+
+-- it was accepted, and what it wrote is not empty
+abbrev Wrote : Done → Type 0
+Wrote d = (d .outcome .answer .bytes ≡ 0 → ⊥) → (d .outcome .answer .no ≡ 0) × (wrote d ≡ [] → ⊥)
+
+answered-wrote : (n : ℕ) (st : Step) (after : Record) (buffer : List ℕ) → Wrote (answered n st after buffer)
+unfolding accepted refused
+answered-wrote n st after buffer =
+    answered-either n st after buffer Wrote
+    (λ e some. (refl, λ q. some (ap length (sym (take-written (st .bytes) buffer) ∙ q)))) (λ z some. absurd (some refl))
+
+pub wrote-some : (x : Record) (c : Call) → Wrote (doing x c)
+unfolding doing deal recover deliver
+wrote-some x (deals secret coins lent) = answered-wrote _ (dealStep x secret coins) x (replicate lent 0)
+wrote-some x (gets sender bytes lent) = answered-wrote _ (messageStep x (sender - 1) (messageIn (x .setup) bytes)) _ (replicate lent 0)
+wrote-some x (commanded lent) = answered-wrote _ (recoverStep x) x (replicate lent 0)

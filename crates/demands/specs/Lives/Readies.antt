@@ -19,6 +19,7 @@ use Rattle.rules.specs.declared.Four.{Four}
 use Rattle.rules.specs.declared.Kept.{Kept}
 use Rattle.rules.specs.declared.Kept.the-variants.{Absent, There}
 use Rattle.rules.specs.declared.Pair.{Pair}
+use Rattle.rules.specs.declared.Point.the-variants.{Held}
 use Rattle.rules.specs.declared.Record.{Record}
 use Rattle.rules.specs.declared.SetUp.{SetUp}
 use Rattle.rules.specs.declared.Slot.{Slot}
@@ -33,10 +34,12 @@ use Rattle.rules.specs.Laws.Shape.{ShapedSlot}
 use Rattle.rules.specs.declared.Side.{Side}
 use Rattle.rules.specs.Laws.Facts.{marksOf, PairRight, SlotFacts}
 use Rattle.rules.specs.Laws.Kept.TakenSlot.{other, countOf, aim, count-grows, count-up, either-side, due-sides}
+use Rattle.demands.specs.Terms.Honest.{Past}
 use Rattle.demands.specs.Terms.Histories.{Call, after}
 use Rattle.demands.specs.Terms.Dealing.{group, order, Different}
 use Rattle.demands.specs.Sharing.{share-passes}
-use Rattle.demands.specs.Terms.Lives.{readiesSent}
+use Rattle.demands.specs.Terms.Lives.{readiesSent, said}
+use Rattle.demands.specs.Histories.{past-self, past-more}
 use Rattle.demands.specs.Lives.Slots.{slotOf, slot-facts, slot-shape}
 use Rattle.demands.specs.Lives.Turns.{next}
 use Rattle.demands.specs.Lives.Seen.{readyNow, View, aside, touched, view}
@@ -164,23 +167,37 @@ module _ (u : SetUp) (set-up : setUp u .answer .no ≡ 0) (D : List (List Elemen
 
   -- ---- the pair passes
 
-  -- what a slot with a pair holds passes the point check, from k boxes at least
-  pub held-differ : (cs : List Call) → isThere (keptIn cs) ≡ true
-      → Different u zeroFour (take (u .k) (points (slotOf (after u cs) D .places))) (λ m f. pointCheck (group u) (u .k) D (u .i) m f ≡ true)
-  held-differ cs e =
+  -- what holds of all that was said holds of the k lowest points of a slot with a pair
+  pub said-differ : (P : ℕ → Four → Type 0) (cs : List Call) → ((m : ℕ) (f : Four) → said u cs m D ≡ Held f → P m f)
+      → isThere (keptIn cs) ≡ true → Different u zeroFour (take (u .k) (points (slotOf (after u cs) D .places))) P
+  said-differ P cs each e =
       let x = after u cs in
       let facts = subst (λ (v : SetUp). SlotFacts v (slotOf x D)) (own-setup u set-up cs) (slot-facts x (good u set-up cs) D) in
-      points-differ u (slotOf x D) _ (facts .contents .above)
-      (λ m f l h. said-passes u set-up D (m + 1) f cs (sym (points-are u set-up D m l cs) ∙ h))
+      points-differ u (slotOf x D) P (facts .contents .above)
+      (λ m f l h. each (m + 1) f (sym (points-are u set-up D m l cs) ∙ h))
       (enough u (slotOf x D) facts e)
 
-  pub pair-passes : (cs : List Call) (p : Pair) → keptIn cs ≡ There p → shareCheck (group u) (u .k) D (u .i) p ≡ true
-  pair-passes [] p e = absurd (true≢false (sym (ap isThere e) ∙ ap isThere at-first))
-  pair-passes (c ∷ cs) p e = go (pairing c cs) (pair-passes cs p)
+  -- they pass the point check
+  pub held-differ : (cs : List Call) → isThere (keptIn cs) ≡ true
+      → Different u zeroFour (take (u .k) (points (slotOf (after u cs) D .places))) (λ m f. pointCheck (group u) (u .k) D (u .i) m f ≡ true)
+  held-differ cs = said-differ _ cs (λ m f. said-passes u set-up D m f cs)
+
+  -- what holds, at each moment, of the pair of a slot's k lowest points holds of the pair kept
+  pub pair-holds : (P : Pair → Type 0) (cs : List Call)
+      → ((now : List Call) → Past now cs → isThere (keptIn now) ≡ true → matrixPasses (group u) (u .k) D ≡ true
+      → P (pairFrom (order u) (take (u .k) (points (slotOf (after u now) D .places)))))
+      → (p : Pair) → keptIn cs ≡ There p → P p
+  pair-holds P [] holds p e = absurd (true≢false (sym (ap isThere e) ∙ ap isThere at-first))
+  pair-holds P (c ∷ cs) holds p e =
+      go (pairing c cs) (pair-holds P cs (λ now q. holds now (past-more c now cs q)) p)
     where
-      go : Pairing c cs → (keptIn cs ≡ There p → shareCheck (group u) (u .k) D (u .i) p ≡ true)
-          → shareCheck (group u) (u .k) D (u .i) p ≡ true
+      go : Pairing c cs → (keptIn cs ≡ There p → P p) → P p
       go (left r q) ih = ih (sym q ∙ e)
       go (made r m n q) ih =
-          let made-of : p ≡ pairFrom (order u) (take (u .k) (points (slotOf (after u (c ∷ cs)) D .places))) = cc in
-          rw made-of (share-passes u (numbers-keep u set-up) D m (u .i) _ (held-differ (c ∷ cs) (ap isThere e)) .1)
+          let made-of : pairFrom (order u) (take (u .k) (points (slotOf (after u (c ∷ cs)) D .places))) ≡ p = cc in
+          subst P made-of (holds (c ∷ cs) (past-self (c ∷ cs)) (ap isThere e) m)
+
+  pub pair-passes : (cs : List Call) (p : Pair) → keptIn cs ≡ There p → shareCheck (group u) (u .k) D (u .i) p ≡ true
+  pair-passes cs p =
+      pair-holds (λ v. shareCheck (group u) (u .k) D (u .i) v ≡ true) cs
+      (λ now q there passes. share-passes u (numbers-keep u set-up) D passes (u .i) _ (held-differ now there) .1) p

@@ -27,11 +27,11 @@ use Rattle.rules.specs.Matrices.{entry}
 use Rattle.rules.specs.Dealing.{committed, matrixPasses, shareCheck}
 use Rattle.rules.specs.Record.{nothing, slotAt, shareAt, isThere, isDone, matrixOf, sharesKept, newRecord}
 use Rattle.rules.specs.Steps.{recoveredFrom, sharePoints, sharing}
-use Rattle.rules.specs.Answers.{setUp, shareChecks}
+use Rattle.rules.specs.Answers.{noPair, setUp, shareChecks}
 use Rattle.rules.specs.Laws.Facts.{Facts}
 use Rattle.rules.specs.Laws.Kept.Changes.{Good}
 use Rattle.demands.specs.Terms.Histories.{Call, after}
-use Rattle.demands.specs.Terms.Dealing.{group, order}
+use Rattle.demands.specs.Terms.Dealing.{group, order, Different}
 use Rattle.demands.specs.Sharing.{shares-open}
 use Rattle.demands.specs.Terms.Lives.{shareNow, pairOf, shareSaid}
 use Rattle.demands.specs.Lives.Turns.{next, Way, quiet, takes, keeps}
@@ -171,19 +171,28 @@ module _ (u : SetUp) (set-up : setUp u .answer .no ≡ 0) where
 
   -- ---- what the pair opens
 
+  -- a pair was recovered: it is that of k shares of different boxes, of which each holds what holds of every share kept
+  pub recovered-differ : (P : ℕ → Pair → Type 0) (p : Pair) (cs : List Call) → after u cs .recovered .kept ≡ There p
+      → ((m : ℕ) (v : Pair) → m < 10 → shareAt (after u cs .shares) m ≡ There v → P (m + 1) v)
+      → Different u noPair (sharePoints (after u cs .shares)) P
+  recovered-differ P p cs e each =
+      let x = after u cs in
+      let facts = good u set-up cs .facts in
+      let with-u = own-setup u set-up cs in
+      let all = eqb-true (sharesKept (x .shares)) (x .setup .k) (sym (facts .shares .exactly) ∙ ap isThere e) ∙ ap (λ (v : SetUp). v .k) with-u in
+      shares-differ u (x .shares) P
+      (λ m l h. sym (facts .shares .senders m l) ∙ facts .none m 3 l (subst (λ (v : SetUp). v .n ≤ m) (sym with-u) h) (omega arith))
+      each all
+
   pub report-open : (s : ℕ) (p : Pair) (cs : List Call) → after u cs .progress .completion ≡ With s → after u cs .recovered .kept ≡ There p
       → committed (group u) (p .first .0) (p .second .0) ≡ entry (matrixOf (slotAt (after u cs) s)) 0 0
   report-open s p cs d e =
       let x = after u cs in
       let facts = good u set-up cs .facts in
-      let with-u = own-setup u set-up cs in
       let done = facts .progress .completion s d in
       let passes = subst (λ (v : SetUp). matrixPasses (group v) (v .k) (matrixOf (slotAt x s)) ≡ true)
-      with-u (facts .slots .each s (done .within) .contents .passes (done .used)) in
-      let all = eqb-true (sharesKept (x .shares)) (x .setup .k) (sym (facts .shares .exactly) ∙ ap isThere e) ∙ ap (λ (v : SetUp). v .k) with-u in
+      (own-setup u set-up cs) (facts .slots .each s (done .within) .contents .passes (done .used)) in
       ap (λ (v : Pair). committed (group u) (v .first .0) (v .second .0)) (recovered-is p cs e)
       ∙ shares-open u (numbers-keep u set-up) (matrixOf (slotAt x s)) passes (sharePoints (x .shares))
-      (shares-differ u (x .shares) (λ m v. shareCheck (group u) (u .k) (matrixOf (slotAt x s)) m v ≡ true)
-      (λ m l h. sym (facts .shares .senders m l) ∙ facts .none m 3 l (subst (λ (v : SetUp). v .n ≤ m) (sym with-u) h) (omega arith))
-      (λ m v l h. share-pass s m v l cs d h)
-      all)
+      (recovered-differ (λ m v. shareCheck (group u) (u .k) (matrixOf (slotAt x s)) m v ≡ true) p cs e
+      (λ m v l h. share-pass s m v l cs d h))

@@ -25,7 +25,6 @@ use Rattle.demands.specs.Terms.Lives.{lowestFor, Sends}
 use Rattle.demands.specs.Lives.Slots.{Has, own-is, there-some}
 use Rattle.demands.specs.Lives.Born.{good, own-setup}
 use Rattle.demands.specs.Lives.Completed.{done-kept}
-use Rattle.demands.specs.Terms.Dealing.{order}
 use Rattle.demands.specs.Lives.Origins.{readyOf, Spoken, spoken}
 use Rattle.demands.specs.Own.{each-same, ready-bytes}
 
@@ -57,16 +56,16 @@ module _ (u : SetUp) (set-up : setUp u .answer .no ≡ 0) (cs : List Call) (c : 
   by-kind : (what : Sent) → Spoken u x c what (wrote d) → Sends u cs c what (wrote d)
   unfolding after
   by-kind Nothing t = t
-  by-kind Send t = (t .0, t .1, t .5 .0, t .5 .1, t .4)
-  by-kind Echo t = (t .4 .0, t .4 .1, t .0, t .4 .2, t .4 .3, t .3)
-  by-kind Ready t = (t .4 .0, t .4 .1, t .4 .2, t .4 .3, t .3 ∙ own-ready (matrixIn u (t .4 .2)) (t .0) (t .4 .4))
+  by-kind Send t = (t .0, t .1, t .5, t .6, t .4)
+  by-kind Echo t = (t .4, t .5, t .0, t .6, t .7, t .3)
+  by-kind Ready t = (t .4, t .5, t .6, t .7, t .3 ∙ own-ready (matrixIn u (t .6)) (t .0) (t .8))
   by-kind Recovery t =
       let done = done-with (x .progress .completion) (t .1) in
       let kept = there-some _ (done-kept u set-up (done .0) cs (done .1) .1) in (
         done .0,
-        t .2 .0,
+        t .2,
         kept .0,
-        t .2 .1,
+        t .3,
         done .1,
         kept .1,
         t .0 ∙ ap (λ (v : Completion). shareBytes u (completedShare x v)) (done .1) ∙ ap (shareBytes u) (kept .1),

@@ -1,8 +1,8 @@
 -- Histories: lists of calls on boxes. Nothing is assumed of time or fairness: messages are repeated, dropped, reordered,
 -- buffers are short, calls are refused.
 --
--- In order: the life of one box; what a box has sent; a class and its history; what the history comes to at each box.
--- Lists of calls and of events have the latest first.
+-- In order: the life of one box; what a box has sent; a class and its history; what the history comes to at each box. In the module
+-- below: what an event adds to it (`Added`). Lists of calls and of events have the latest first.
 -- Assumes nothing.
 use mathlib.Core.Bool.{Bool, not}
 use mathlib.Core.List.{List, [], _∷_, _++_}
