@@ -1,14 +1,14 @@
--- DEMANDS 2 AND 3. Open this file first: each theorem has its sentence above it and its statement in full; the proofs are in
--- the modules named on its `=` line. What a statement names stands in `rules` and in five files here: `Histories` (calls,
--- lives, histories), `Sharing` (an honest deal; k different boxes), `Lives.Terms` (what was checked in a life, what a box holds
--- for a matrix), `SheetOpens` (a sheet that prints a secret), `Matching` (the map of the coins).
+-- DEMANDS 2 AND 3, AND WHAT DEMAND 1 IS OVER A LIFE. Open this file first: each theorem has its sentence above it and its
+-- statement in full; the proofs are in the modules named on its `=` line. What a statement names stands in `rules` and in `Terms`,
+-- where nothing is proved.
 --
--- In order: demand 2: sharing, completeness, the life of a box, the recovery sheet; demand 3. The crate `instances` has
--- computed histories for sharing, the life of a box and demand 3; completeness and the sheet have none there.
+-- In order: demand 2: sharing, completeness, the life of a box, a box of any make, a class in which all keep the rules, the recovery
+-- sheet; demand 3. The crate `instances` has a computed instance for each theorem.
 -- Assumes nothing.
 use mathlib.Core.Path.{_≡_}
 use mathlib.Core.Bool.{Bool, true, false}
 use mathlib.Core.List.{List, _∷_, _++_}
+use mathlib.Core.Logic.{_⊎_, _≢_}
 use Prim.Native.Nat.{ℕ, _+_, _*_, _-_, _<_, _≤_}
 use lib.Dec.{eqb}
 use lib.ListN.{getD, take}
@@ -16,28 +16,38 @@ use Rattle.folds.specs.Below.{countBelow}
 use Rattle.rules.specs.declared.Answer.{Answer}
 use Rattle.rules.specs.declared.Completion.the-variants.{With}
 use Rattle.rules.specs.declared.Element.{Element}
+use Rattle.rules.specs.declared.Four.{Four}
 use Rattle.rules.specs.declared.Kept.the-variants.{Absent, There}
 use Rattle.rules.specs.declared.Pair.{Pair}
+use Rattle.rules.specs.declared.Point.the-variants.{Held}
 use Rattle.rules.specs.declared.Sent.the-variants.{Send, Echo, Ready, Recovery}
 use Rattle.rules.specs.declared.SetUp.{SetUp}
-use Rattle.rules.specs.Numbers.{groupOf, groupKeeps, numbersKeep}
+use Rattle.rules.specs.Numbers.{groupOf, groupKeeps, isBox, numbersKeep}
 use Rattle.rules.specs.Matrices.{entry, zeroFour}
-use Rattle.rules.specs.Messages.{echo, tagIn, matrixIn, polynomialsIn, toEach}
+use Rattle.rules.specs.Messages.{echo, recovery, tagIn, matrixIn, polynomialsIn, toEach}
 use Rattle.rules.specs.Dealing.{coinsKeep, committed, matrixPasses, shareCheck}
-use Rattle.rules.specs.Record.{slotAt, placeAt, shareAt, isThere, matrixOf, sound, sameMatrix, heardFor}
+use Rattle.rules.specs.Record.{slotAt, placeAt, shareAt, isThere, isDone, matrixOf, sound, sameMatrix, heardFor}
 use Rattle.rules.specs.Steps.{Said, sharePoints, pairFrom, echoFour, recoveredFrom}
 use Rattle.rules.specs.Answers.{noPair, setUp}
 use Rattle.rules.specs.Sheet.{boxLines, secretLine, printed}
+use Rattle.rules.specs.UselessBoxes.{Station, Keeps}
 use Rattle.rules.specs.Laws.Shape.{Shaped}
-use Rattle.demands.specs.Terms.Histories.{Call, gets, commanded, doing, after, answers, wrote, Class, own, Event}
-use Rattle.demands.specs.Terms.Dealing.{group, order, Sound, dealtPoint, dealtShare, Different}
+use Rattle.rules.specs.Laws.DemandOne.{Heard}
+use Rattle.rules.specs.Laws.Heard.{NowHeard, OneMark}
+use Rattle.demands.specs.Terms.Histories.{Call, deals, gets, commanded, doing, after, answers, wrote, Class, own, Event, recordOf}
+use Rattle.demands.specs.Terms.Dealing.{group, order, Sound, dealtPoint, dealtShare, sendsOf, Different}
+use Rattle.demands.specs.Terms.Lives.{checked, said, shareSaid, eOf, rOf, keptFor, lowestFor, isSend, isEcho, isRecovery, howMany, readiesSent, Writes, answerTo, Sends}
+use Rattle.demands.specs.Terms.Stations.{afterBy, checkedBy, AllSayable}
+use Rattle.demands.specs.Terms.Honest.{AllKeep, DealsOnly}
+use Rattle.demands.specs.Terms.Sheet.{Opens, numbers, matrix, says, verified, secret}
+use Rattle.demands.specs.Terms.Secrets.{Few, matching, played, Uncommanded, Alike, Strategy, scriptBy}
 use Rattle.demands.specs.Sharing as Sharing
-use Rattle.demands.specs.Terms.Lives.{checked, said, shareSaid, eOf, rOf, keptFor, lowestFor, readiesSent, howMany, isEcho, answerTo}
-use Rattle.demands.specs.Lives as Lives
 use Rattle.demands.specs.Completeness as Completeness
-use Rattle.demands.specs.Terms.Sheet.{numbers, matrix, says, verified, secret, Opens}
+use Rattle.demands.specs.Lives as Lives
+use Rattle.demands.specs.Lives.Sent as Sent
+use Rattle.demands.specs.Stations as Stations
+use Rattle.demands.specs.Honest as Honest
 use Rattle.demands.specs.SheetOpens as SheetOpens
-use Rattle.demands.specs.Terms.Secrets.{Few, matching, played, Uncommanded, Alike}
 use Rattle.demands.specs.Matching as Matching
 use Rattle.demands.specs.Hiding as Hiding
 
@@ -103,6 +113,23 @@ honest-points-give-the-dealt-share = Completeness.dealt-share-kept
 -- ---- the life of a box: set up once and accepted, then any calls, each on the record that the last one left
 
 module _ (u : SetUp) (taken : setUp u .answer .no ≡ 0) (cs : List Call) where
+  -- "an honest deal": the dealer's first, of coins in range and with buffer enough, is taken, and writes byte for byte the n sends of
+  -- this secret and these coins. "A dealer that ignores its coins or secret would meet demand 3 alone": it does not meet this
+  pub deal-writes-the-sends : u .i ≡ u .d → howMany (λ (a : Answer). isSend (a .sent)) (answers u cs) ≡ 0
+      → (secret : ℕ) (coins : List ℕ) → coinsKeep u secret coins ≡ true → (lent : ℕ) → 2048 ≤ lent
+      → Writes (doing (after u cs) (deals secret coins lent)) Send (sendsOf u secret coins)
+  deal-writes-the-sends = Lives.deal-writes u taken cs
+
+  -- "Recovery command: send the share to each j.": a completed box's first, with buffer enough
+  pub command-writes-the-share : (s : ℕ) (p : Pair) → after u cs .progress .completion ≡ With s → slotAt (after u cs) s .pair .kept ≡ There p
+      → howMany (λ (a : Answer). isRecovery (a .sent)) (answers u cs) ≡ 0 → (lent : ℕ) → 2048 ≤ lent
+      → Writes (doing (after u cs) (commanded lent)) Recovery (toEach u (λ j. recovery p))
+  command-writes-the-share = Lives.command-writes u taken cs
+
+  -- "AVSS as document 01 states it, to each byte": what any call sends, whole; nothing, or n messages of one kind
+  pub every-byte-sent : (c : Call) → Sends u cs c (doing (after u cs) c .outcome .answer .sent) (wrote (doing (after u cs) c))
+  every-byte-sent = Sent.every-byte u taken cs
+
   -- its record is sound, and has the numbers of its set-up: the box never meets 12
   pub stays-sound : (sound (after u cs) ≡ true) × Shaped (after u cs) × (after u cs .setup ≡ u)
   stays-sound = Lives.life-sound u taken cs
@@ -113,6 +140,26 @@ module _ (u : SetUp) (taken : setUp u .answer .no ≡ 0) (cs : List Call) where
 
   pub r-counts-senders : (C : List (List Element)) → rOf (after u cs) C ≡ countBelow 10 (λ m. checked u cs 3 (m + 1) C)
   r-counts-senders = Lives.r-counts u taken cs
+
+  -- "An accepted message marks its sender heard for its tag.", and nobody else
+  pub accepted-is-heard : (sender lent : ℕ) (bytes : List ℕ) → doing (after u cs) (gets sender bytes lent) .outcome .answer .no ≡ 0
+      → NowHeard (after u cs) (after u (gets sender bytes lent ∷ cs)) (tagIn bytes) (sender - 1)
+  accepted-is-heard = Lives.accepted-heard u taken cs
+
+  -- "All refusals leave the record as it came, except that 8, 9 and 10 on tags 1, 2, 3 mark that sender heard for that tag"
+  pub refusal-marks-one-at-most : (sender lent : ℕ) (bytes : List ℕ) → doing (after u cs) (gets sender bytes lent) .outcome .answer .no ≢ 0
+      → ((Heard (doing (after u cs) (gets sender bytes lent) .outcome .answer .no) (tagIn bytes) → ⊥)
+      × (after u (gets sender bytes lent ∷ cs) ≡ after u cs))
+      ⊎ (Heard (doing (after u cs) (gets sender bytes lent) .outcome .answer .no) (tagIn bytes)
+      × OneMark (after u cs) (after u (gets sender bytes lent ∷ cs)) (tagIn bytes) (sender - 1))
+  refusal-marks-one-at-most = Lives.refused-leaves u taken cs
+
+  -- "deal .. a second time", "recovery command .. a second time" get 13
+  pub deals-once : howMany (λ (a : Answer). isSend (a .sent)) (answers u cs) ≤ 1
+  deals-once = Lives.one-deal u taken cs
+
+  pub commanded-once : howMany (λ (a : Answer). isRecovery (a .sent)) (answers u cs) ≤ 1
+  commanded-once = Lives.one-command u taken cs
 
   -- "a box sends echo at most once, ready at most once for each matrix, and completes at most once"
   pub sends-echo-once : howMany (λ (a : Answer). isEcho (a .sent)) (answers u cs) ≤ 1
@@ -147,6 +194,24 @@ module _ (u : SetUp) (taken : setUp u .answer .no ≡ 0) (cs : List Call) where
       → keptFor (after u (later ++ cs)) C ≡ There p
   pair-never-changes = Lives.kept-ever u taken cs
 
+  -- "else if r = k + t, complete with this C": enough readies for one matrix mean completion
+  pub enough-readies-complete : (C : List (List Element)) → u .k + u .t ≤ rOf (after u cs) C
+      → isDone (after u cs .progress .completion) ≡ true
+  enough-readies-complete = Lives.completion-forced u taken cs
+
+  -- "Only the first completion counts; later readies for another C are counted and change neither C nor share."
+  pub completion-never-changes : (s : ℕ) (later : List Call) → after u cs .progress .completion ≡ With s
+      → (after u (later ++ cs) .progress .completion ≡ With s)
+      × (matrixOf (slotAt (after u (later ++ cs)) s) ≡ matrixOf (slotAt (after u cs) s))
+      × (slotAt (after u (later ++ cs)) s .pair .kept ≡ slotAt (after u cs) s .pair .kept)
+  completion-never-changes = Lives.completion-stays u taken cs
+
+  -- "complete with this C and share (a(0), a'(0)), taken from the polynomials interpolated when this box sent ready for this C": the
+  -- share is the pair kept for the completed matrix
+  pub completed-share-is-the-kept-pair : (s : ℕ) → after u cs .progress .completion ≡ With s
+      → slotAt (after u cs) s .pair .kept ≡ keptFor (after u cs) (matrixOf (slotAt (after u cs) s))
+  completed-share-is-the-kept-pair = Lives.share-kept-for u taken cs
+
   -- "the completed share passes the share check": a completed box has a kept pair in the place of its matrix, and it passes
   pub completed-has-its-share : (s : ℕ) → after u cs .progress .completion ≡ With s
       → (s < 20) × (isThere (slotAt (after u cs) s .pair .kept) ≡ true)
@@ -173,6 +238,38 @@ module _ (u : SetUp) (taken : setUp u .answer .no ≡ 0) (cs : List Call) where
 
   pub share-kept-as-said : (m : ℕ) → m < 10 → shareAt (after u cs .shares) m ≡ shareSaid u cs (m + 1)
   share-kept-as-said = Lives.shares-say u taken cs
+
+-- ---- a box of any make: its deliveries are taken by a station that keeps the promise of a delivery
+
+-- "One that makes up e or r breaks it too: each equals the number of different senders whose message of that tag and C was checked."
+-- The station is one that keeps the promise where code has to, and the calls are such as code can be given; what counts as checked
+-- is what the station itself accepted. The other useless boxes are shut out in `UselessBoxes` of `rules`.
+module _ (station : Station) (keeps : Keeps station) (u : SetUp) (taken : setUp u .answer .no ≡ 0)
+    (cs : List Call) (given : AllSayable cs) (C : List (List Element)) where
+  pub no-e-is-made-up : eOf (afterBy station u cs) C ≡ countBelow 10 (λ m. checkedBy station u cs 2 (m + 1) C)
+  no-e-is-made-up = Stations.e-by-station station keeps u taken cs given C
+
+  pub no-r-is-made-up : rOf (afterBy station u cs) C ≡ countBelow 10 (λ m. checkedBy station u cs 3 (m + 1) C)
+  no-r-is-made-up = Stations.r-by-station station keeps u taken cs given C
+
+-- ---- a class in which all boxes keep the rules, in any history with one deal
+
+module _ (c : Class) (secret : ℕ) (coins : List ℕ) (h : AllKeep c secret coins) (es : List Event) (only : DealsOnly c secret coins es)
+    (i : ℕ) (box-i : isBox (c .numbers) i ≡ true) where
+  -- "where all points used came from such messages": every held point is a dealt one,
+  pub held-points-are-dealt : (s m : ℕ) (f : Four) → s < 20 → m < 10 → placeAt (slotAt (recordOf c es i) s) m .point ≡ Held f
+      → f ≡ dealtPoint (c .numbers) secret coins (m + 1) i
+  held-points-are-dealt = Honest.point-is-dealt c secret coins h es only i box-i
+
+  -- "the completed share is f(i, 0), f'(i, 0)",
+  pub completed-share-is-dealt : (s : ℕ) → recordOf c es i .progress .completion ≡ With s
+      → slotAt (recordOf c es i) s .pair .kept ≡ There (dealtShare (c .numbers) secret coins i)
+  completed-share-is-dealt = Honest.completed-share-is-dealt c secret coins h es only i box-i
+
+  -- and what is recovered is the secret
+  pub recovered-is-the-secret : (p : Pair) → recordOf c es i .recovered .kept ≡ There p
+      → (p .first .0 ≡ secret) × (p .second .0 ≡ getD coins (c .numbers .k * c .numbers .k - 1) 0)
+  recovered-is-the-secret = Honest.recovered-is-the-secret c secret coins h es only i box-i
 
 -- ---- the recovery sheet
 
@@ -213,9 +310,9 @@ module _ (u : SetUp) (s : Sound u) (A : ℕ → Bool) (few : Few u A) (secret se
 -- "take any set of at most k - 1 boxes without the dealer and any two secrets below q": with the matching coins, every script
 -- looks the same: every byte delivered to the set, and every answer, count and completed matrix of the other boxes. The script is
 -- any list of events in which "no recovery has been commanded": no box that keeps the rules has its mark at the end of the first
--- run, where a command that was refused left none. Whatever the script has the dealer deal is this secret with these coins (a
--- second deal gets 13). It is stated over demand 2's dealing: `played` puts secret and coins into `deal` of `rules`, so a dealer
--- that ignores them is another definition, of which `dealt-shares-give-the-secret` and the map's own laws do not hold.
+-- run, where a command that was refused left none. What the script has the dealer deal is this secret with these coins (a second
+-- deal gets 13); a deal of coins that are out of range, which gets 14, is left as it is. That a deal is of its secret and its coins
+-- is `deal-writes-the-sends`.
 pub two-secrets-look-the-same : (c : Class) → groupKeeps (c .numbers) ≡ true → numbersKeep (own (c .numbers) (c .numbers .d)) ≡ true
     → Few (c .numbers) (c .breaks) → c .breaks (c .numbers .d) ≡ false
     → (secret secret′ : ℕ) → secret < order (c .numbers) → secret′ < order (c .numbers)
@@ -224,3 +321,15 @@ pub two-secrets-look-the-same : (c : Class) → groupKeeps (c .numbers) ≡ true
     → Alike c (played (c .numbers) secret coins script)
     (played (c .numbers) secret′ (matching (c .numbers) (c .breaks) secret secret′ coins) script)
 two-secrets-look-the-same = Hiding.hides
+
+-- and so it is for a set that answers to what it sees: its strategy says what happens next, by all that it has seen so far
+pub two-secrets-look-the-same-to-any-strategy : (c : Class) → groupKeeps (c .numbers) ≡ true
+    → numbersKeep (own (c .numbers) (c .numbers .d)) ≡ true
+    → Few (c .numbers) (c .breaks) → c .breaks (c .numbers .d) ≡ false
+    → (secret secret′ : ℕ) → secret < order (c .numbers) → secret′ < order (c .numbers)
+    → (coins : List ℕ) → coinsKeep (c .numbers) secret coins ≡ true
+    → (strategy : Strategy) (n : ℕ) → Uncommanded c (played (c .numbers) secret coins (scriptBy c strategy secret coins n))
+    → Alike c (played (c .numbers) secret coins (scriptBy c strategy secret coins n))
+    (played (c .numbers) secret′ (matching (c .numbers) (c .breaks) secret secret′ coins)
+    (scriptBy c strategy secret′ (matching (c .numbers) (c .breaks) secret secret′ coins) n))
+two-secrets-look-the-same-to-any-strategy = Hiding.hides-adaptively

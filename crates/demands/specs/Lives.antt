@@ -1,8 +1,9 @@
 -- The life of a box that keeps the rules, whatever it is told and sent: demand 2 over histories from set-up.
 --
--- In the modules below: the terms (`Terms`); what a box holds for a matrix, as one slot (`Slots`, `Replaced`); the steps of checked
--- messages (`Stepped`, `Took`); any call taken apart (`Turns`, `Deliveries`), and seen from one matrix (`Seen`); a life from its beginning
--- (`Born`), and by induction over it each topic (`Counts`, `Points`, `Readies`, `Once`, `Marks`, `Recovered`). Here: the statements.
+-- In the modules below: what a box holds for a matrix, as one slot (`Slots`, `Replaced`); the steps of checked messages (`Stepped`,
+-- `Took`); any call taken apart (`Turns`, `Deliveries`), and seen from one matrix (`Seen`); a life from its beginning (`Born`), and by
+-- induction over it each topic (`Counts`, `Points`, `Readies`, `Once`, `Completed`, `Marks`, `Recovered`); the commands (`Commands`);
+-- what stands behind each message that is sent (`Origins`), and its bytes (`Sent`). Here: the statements.
 -- Assumes nothing.
 pub mod Slots
 pub mod Replaced
@@ -17,18 +18,19 @@ pub mod Points
 pub mod Readies
 pub mod Once
 pub mod Completed
+pub mod Marks
+pub mod Recovered
 pub mod Commands
 pub mod Origins
 pub mod Sent
-pub mod Marks
-pub mod Recovered
 use mathlib.Core.Path.{_≡_, refl, sym, ap, _∙_, subst}
 use mathlib.Core.Bool.{true, false}
 use mathlib.Core.List.{List, _∷_, _++_}
-use Prim.Native.Nat.{ℕ, _+_, _<_, _≤_}
+use mathlib.Core.Logic.{_⊎_, _≢_}
+use Prim.Native.Nat.{ℕ, _+_, _-_, _<_, _≤_}
 use native.Mathlib.Omega.{arith}
 use lib.Dec.{eqb}
-use lib.ListN.{take}
+use lib.ListN.{take, replicate}
 use Rattle.folds.specs.Tests.{pick}
 use Rattle.folds.specs.Below.{countBelow, anyBelow-here}
 use Rattle.rules.specs.declared.Answer.{Answer}
@@ -38,27 +40,31 @@ use Rattle.rules.specs.declared.Four.{Four}
 use Rattle.rules.specs.declared.Kept.the-variants.{There}
 use Rattle.rules.specs.declared.Pair.{Pair}
 use Rattle.rules.specs.declared.Point.the-variants.{Held}
-use Rattle.rules.specs.declared.Sent.the-variants.{Echo}
+use Rattle.rules.specs.declared.Sent.the-variants.{Send, Echo, Recovery}
 use Rattle.rules.specs.declared.SetUp.{SetUp}
 use Rattle.rules.specs.declared.Slot.{Slot}
 use Rattle.rules.specs.Matrices.{entry}
-use Rattle.rules.specs.Messages.{echo, tagIn, matrixIn, polynomialsIn, toEach}
-use Rattle.rules.specs.Dealing.{committed, pointCheck, shareCheck}
+use Rattle.rules.specs.Messages.{echo, recovery, tagIn, matrixIn, polynomialsIn, toEach}
+use Rattle.rules.specs.Dealing.{coinsKeep, committed, pointCheck, shareCheck}
 use Rattle.rules.specs.Record.{slotAt, placeAt, shareAt, isHeld, isThere, isDone, held, matrixOf, sound}
 use Rattle.rules.specs.Steps.{points, sharePoints, pairFrom, echoFour, recoveredFrom}
 use Rattle.rules.specs.Answers.{setUp}
 use Rattle.rules.specs.Laws.Shape.{Shaped}
 use Rattle.rules.specs.Laws.Sound.{facts-sound}
-use Rattle.demands.specs.Terms.Histories.{Call, gets, doing, after, answers, wrote}
-use Rattle.demands.specs.Terms.Dealing.{group, order}
+use Rattle.rules.specs.Laws.DemandOne.{Heard}
+use Rattle.rules.specs.Laws.Heard.{NowHeard, OneMark, accepted-hears, refusal-leaves}
+use Rattle.demands.specs.Terms.Histories.{Call, deals, gets, commanded, doing, after, answers, wrote}
+use Rattle.demands.specs.Terms.Dealing.{group, order, sendsOf}
 use Rattle.demands.specs.Sharing.{size}
-use Rattle.demands.specs.Terms.Lives.{checked, said, shareSaid, eOf, rOf, keptFor, lowestFor, isEcho, howMany, readiesSent}
+use Rattle.demands.specs.Terms.Lives.{checked, said, shareSaid, eOf, rOf, keptFor, lowestFor, isEcho, howMany, readiesSent, isSend, isRecovery, Writes}
 use Slots.{slotOf, r-of, kept-of, slot-used, slot-there}
 use Deliveries.{Echoed, echo-exact}
 use Born.{good, own-setup, numbers-keep, facts-at}
 use Counts.{e-is, r-is, points-are, said-passes}
 use Readies.{used-there, readies-are, kept-now, kept-on, pair-passes}
 use Once.{echo-once, complete-once}
+use Marks.{deal-once, command-once}
+use Commands.{first-deal, first-command}
 use Completed.{forced, done-kept, share-kept, completion-on, matrix-on, share-on}
 use Recovered.{shares-are, recovered-is, share-pass, report-open}
 
@@ -181,3 +187,38 @@ module _ (u : SetUp) (taken : setUp u .answer .no ≡ 0) (cs : List Call) where
   exact-echo sender lent bytes h e =
       subst (λ (v : SetUp). Echoed v bytes (doing (after u cs) (gets sender bytes lent))) (own-setup u taken cs)
       (echo-exact (after u cs) (good u taken cs) sender lent bytes h e)
+
+  -- the dealer's first deal is taken, and writes the sends of its secret and coins; it deals once
+  pub deal-writes : u .i ≡ u .d → howMany (λ (a : Answer). isSend (a .sent)) (answers u cs) ≡ 0
+      → (secret : ℕ) (coins : List ℕ) → coinsKeep u secret coins ≡ true → (lent : ℕ) → 2048 ≤ lent
+      → Writes (doing (after u cs) (deals secret coins lent)) Send (sendsOf u secret coins)
+  deal-writes dealer first secret coins keep lent long = first-deal u taken cs lent long dealer first secret coins keep
+
+  pub one-deal : howMany (λ (a : Answer). isSend (a .sent)) (answers u cs) ≤ 1
+  one-deal = deal-once u taken cs
+
+  -- a completed box's first command is taken, and writes its share; it takes one
+  pub command-writes : (s : ℕ) (p : Pair) → after u cs .progress .completion ≡ With s → slotAt (after u cs) s .pair .kept ≡ There p
+      → howMany (λ (a : Answer). isRecovery (a .sent)) (answers u cs) ≡ 0 → (lent : ℕ) → 2048 ≤ lent
+      → Writes (doing (after u cs) (commanded lent)) Recovery (toEach u (λ j. recovery p))
+  command-writes s p done kept first lent long = first-command u taken cs lent long s p done kept first
+
+  pub one-command : howMany (λ (a : Answer). isRecovery (a .sent)) (answers u cs) ≤ 1
+  one-command = command-once u taken cs
+
+  -- an accepted message marks its sender heard, and a refused one at most that
+  module _ (sender lent : ℕ) (bytes : List ℕ) where
+    abbrev it : Call
+    it = gets sender bytes lent
+
+    pub accepted-heard : doing (after u cs) it .outcome .answer .no ≡ 0
+        → NowHeard (after u cs) (after u (it ∷ cs)) (tagIn bytes) (sender - 1)
+    unfolding doing after
+    accepted-heard = accepted-hears (after u cs) (good u taken cs .shape) sender bytes (replicate lent 0)
+
+    pub refused-leaves : doing (after u cs) it .outcome .answer .no ≢ 0
+        → ((Heard (doing (after u cs) it .outcome .answer .no) (tagIn bytes) → ⊥) × (after u (it ∷ cs) ≡ after u cs))
+        ⊎ (Heard (doing (after u cs) it .outcome .answer .no) (tagIn bytes)
+        × OneMark (after u cs) (after u (it ∷ cs)) (tagIn bytes) (sender - 1))
+    unfolding doing after
+    refused-leaves = refusal-leaves (after u cs) (good u taken cs .shape) sender bytes (replicate lent 0)
