@@ -44,7 +44,7 @@ use Rattle.demands.specs.Terms.Secrets.{Few, matching, played, Uncommand
 use Rattle.demands.specs.Sharing as Sharing
 use Rattle.demands.specs.Completeness as Completeness
 use Rattle.demands.specs.Lives as Lives
-use Rattle.demands.specs.Lives.Sent as Sent
+use Rattle.demands.specs.Lives.Bytes as Bytes
 use Rattle.demands.specs.Stations as Stations
 use Rattle.demands.specs.Honest as Honest
 use Rattle.demands.specs.SheetOpens as SheetOpens
@@ -128,7 +128,7 @@ module _ (u : SetUp) (taken : setUp u .answer .no ≡ 0) (cs : List Call) where
 
   -- "AVSS as document 01 states it, to each byte": what any call sends, whole; nothing, or n messages of one kind
   pub every-byte-sent : (c : Call) → Sends u cs c (doing (after u cs) c .outcome .answer .sent) (wrote (doing (after u cs) c))
-  every-byte-sent = Sent.every-byte u taken cs
+  every-byte-sent = Bytes.every-byte u taken cs
 
   -- its record is sound, and has the numbers of its set-up: the box never meets 12
   pub stays-sound : (sound (after u cs) ≡ true) × Shaped (after u cs) × (after u cs .setup ≡ u)

@@ -3,7 +3,7 @@
 -- In the modules below: what a box holds for a matrix, as one slot (`Slots`, `Replaced`); the steps of checked messages (`Stepped`,
 -- `Took`); any call taken apart (`Turns`, `Deliveries`), and seen from one matrix (`Seen`); a life from its beginning (`Born`), and by
 -- induction over it each topic (`Counts`, `Points`, `Readies`, `Once`, `Completed`, `Marks`, `Recovered`); the commands (`Commands`);
--- what stands behind each message that is sent (`Origins`), and its bytes (`Sent`). Here: the statements.
+-- what stands behind each message that is sent (`Origins`), and its bytes (`Bytes`). Here: the statements.
 -- Assumes nothing.
 pub mod Slots
 pub mod Replaced
@@ -22,7 +22,7 @@ pub mod Marks
 pub mod Recovered
 pub mod Commands
 pub mod Origins
-pub mod Sent
+pub mod Bytes
 use mathlib.Core.Path.{_≡_, refl, sym, ap, _∙_, subst}
 use mathlib.Core.Bool.{true, false}
 use mathlib.Core.List.{List, _∷_, _++_}
@@ -40,6 +40,7 @@ use Rattle.rules.specs.declared.Four.{Four}
 use Rattle.rules.specs.declared.Kept.the-variants.{There}
 use Rattle.rules.specs.declared.Pair.{Pair}
 use Rattle.rules.specs.declared.Point.the-variants.{Held}
+use Rattle.rules.specs.declared.Sent.{Sent}
 use Rattle.rules.specs.declared.Sent.the-variants.{Send, Echo, Recovery}
 use Rattle.rules.specs.declared.SetUp.{SetUp}
 use Rattle.rules.specs.declared.Slot.{Slot}
@@ -56,15 +57,16 @@ use Rattle.rules.specs.Laws.Heard.{NowHeard, OneMark, accepted-hears, refusal-l
 use Rattle.demands.specs.Terms.Histories.{Call, deals, gets, commanded, doing, after, answers, wrote}
 use Rattle.demands.specs.Terms.Dealing.{group, order, sendsOf}
 use Rattle.demands.specs.Sharing.{size}
-use Rattle.demands.specs.Terms.Lives.{checked, said, shareSaid, eOf, rOf, keptFor, lowestFor, isEcho, howMany, readiesSent, isSend, isRecovery, Writes}
+use Rattle.demands.specs.Terms.Lives.{checked, said, shareSaid, eOf, rOf, keptFor, lowestFor, isEcho, howMany, readiesSent, isSend, isRecovery, Writes, Sends}
 use Slots.{slotOf, r-of, kept-of, slot-used, slot-there}
-use Deliveries.{Echoed, echo-exact}
+use Deliveries.{has-echo}
 use Born.{good, own-setup, numbers-keep, facts-at}
 use Counts.{e-is, r-is, points-are, said-passes}
 use Readies.{used-there, readies-are, kept-now, kept-on, pair-passes}
 use Once.{echo-once, complete-once}
 use Marks.{deal-once, command-once}
 use Commands.{first-deal, first-command}
+use Bytes.{every-byte}
 use Completed.{forced, done-kept, share-kept, completion-on, matrix-on, share-on}
 use Recovered.{shares-are, recovered-is, share-pass, report-open}
 
@@ -185,8 +187,11 @@ module _ (u : SetUp) (taken : setUp u .answer .no ≡ 0) (cs : List Call) where
       × (wrote (doing (after u cs) (gets sender bytes lent))
       ≡ toEach u (λ j. echo (matrixIn u bytes) (echoFour (order u) (u .k) (polynomialsIn u bytes) j)))
   exact-echo sender lent bytes h e =
-      subst (λ (v : SetUp). Echoed v bytes (doing (after u cs) (gets sender bytes lent))) (own-setup u taken cs)
-      (echo-exact (after u cs) (good u taken cs) sender lent bytes h e)
+      let sent = has-echo (after u cs) (good u taken cs) sender lent bytes h e in
+      let t = subst (λ (what : Sent). Sends u cs (gets sender bytes lent) what (wrote (doing (after u cs) (gets sender bytes lent)))) sent
+      (every-byte u taken cs (gets sender bytes lent)) in
+      let same : t .2 ≡ bytes = cc in
+      (sent, t .5 ∙ ap (λ (b : List ℕ). toEach u (λ j. echo (matrixIn u b) (echoFour (order u) (u .k) (polynomialsIn u b) j))) same)
 
   -- the dealer's first deal is taken, and writes the sends of its secret and coins; it deals once
   pub deal-writes : u .i ≡ u .d → howMany (λ (a : Answer). isSend (a .sent)) (answers u cs) ≡ 0

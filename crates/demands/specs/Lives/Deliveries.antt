@@ -2,14 +2,14 @@
 --
 -- In that order.
 -- Assumes nothing.
-use mathlib.Core.Path.{_≡_, refl, sym, ap, ap₂, _∙_, subst}
+use mathlib.Core.Path.{_≡_, refl, sym, ap, _∙_, subst}
 use mathlib.Core.Bool.{Bool, true, false}
 use mathlib.Core.List.{List}
 use Prim.Native.Nat.{ℕ, _+_, _-_, _<_, _≤_}
 use native.Mathlib.Decide.{ℕ-discrete}
 use native.Mathlib.Omega.{arith}
 use lib.Dec.{eqb}
-use lib.ListN.{take, replicate, length}
+use lib.ListN.{replicate, length}
 use borrow.Author.Tests.{ne-eqb}
 use Rattle.folds.specs.Tests.{_and_, pick-either, and-false, true≢false, and-true}
 use Rattle.rules.specs.declared.Element.{Element}
@@ -21,11 +21,10 @@ use Rattle.rules.specs.declared.Progress.{Progress}
 use Rattle.rules.specs.declared.Record.{Record}
 use Rattle.rules.specs.declared.Sent.the-variants.{Echo}
 use Rattle.rules.specs.declared.SetUp.{SetUp}
-use Rattle.rules.specs.Numbers.{groupOf}
-use Rattle.rules.specs.Messages.{Message, echo, ready, tagIn, matrixIn, polynomialsIn, fourIn, pairIn, messageIn, toEach, written}
+use Rattle.rules.specs.Messages.{Message, echo, ready, tagIn, matrixIn, fourIn, pairIn, messageIn}
 use Rattle.rules.specs.Dealing.{pointCheck}
 use Rattle.rules.specs.Record.{groupIn, sameMatrix, sound}
-use Rattle.rules.specs.Steps.{heard, echoFour, sendStep, slotFor, shareStep, messageStep}
+use Rattle.rules.specs.Steps.{heard, sendStep, slotFor, shareStep, messageStep}
 use Rattle.rules.specs.Answers.{Done, accepted, refused, answered, firstOf, shareChecks, deliverRows, refusalHeard, deliver, firstRow}
 use Rattle.rules.specs.Laws.Numbers.{is-box}
 use Rattle.rules.specs.Laws.DemandOne.{outcome-number, answered-accepted, answered-refused}
@@ -33,23 +32,16 @@ use Rattle.rules.specs.declared.Side.{Side}
 use Rattle.rules.specs.declared.Side.the-variants.{ByEcho, ByReady}
 use Rattle.rules.specs.Laws.Facts.{ear, hears, needed}
 use Rattle.rules.specs.Laws.Sound.{facts-sound}
-use Rattle.rules.specs.Laws.Lengths.{take-written}
 use Rattle.rules.specs.Laws.RoundTrip.{is-send, is-echo, is-ready, is-recovery, by-tag}
 use Rattle.rules.specs.Laws.Room.{Found, room}
 use Rattle.rules.specs.Laws.Kept.{deliver-kept, good-of}
 use Rattle.rules.specs.Laws.Passed.{Passed, rows-passed}
 use Rattle.rules.specs.Laws.Kept.Changes.{Good, hears-own, hears-stays}
-use Rattle.demands.specs.Terms.Histories.{Call, deals, gets, commanded, doing, wrote}
+use Rattle.demands.specs.Terms.Histories.{Call, deals, gets, commanded, doing}
 use Rattle.demands.specs.Terms.Lives.{checksNow, shareNow, isEcho, isReady}
 use Rattle.demands.specs.Lives.Stepped.{JustNow, Stays, as-before, OwnMarks, marks-stay, stepOf, stepped, shared}
 use Rattle.demands.specs.Lives.Took.{Took, sendsNow, took}
 use Rattle.demands.specs.Lives.Turns.{next, takes, keeps, Turn, Untouched, untouched-heard, untouched-same, Tells, tells-refused, quiet-turned, quiet-way, turn-deals, turn-commanded}
-
--- the exact echo of these bytes, a send, was sent
-abbrev pub Echoed : SetUp → List ℕ → Done → Type 0
-Echoed u bytes d =
-    (d .outcome .answer .sent ≡ Echo)
-    × (wrote d ≡ toEach u (λ j. echo (matrixIn u bytes) (echoFour (groupOf (u .group) .q) (u .k) (polynomialsIn u bytes) j)))
 
 module _ (x : Record) (g : Good x) (sender : ℕ) (bytes : List ℕ) (lent : ℕ) where
   abbrev it : Call
@@ -156,18 +148,10 @@ module _ (x : Record) (g : Good x) (sender : ℕ) (bytes : List ℕ) (lent : ℕ
           way = quiet-way x it t (unchecked-now 1 h refl refl) (unshared-now 1 h refl);
         }
 
-    -- and its exact echo
-    send-echoes : tagIn bytes ≡ 1 → Echoed (x .setup) bytes (doing x it)
-    unfolding accepted sendStep heard doing deliver
-    send-echoes h =
-        let out = out-message _ (is-send (x .setup) bytes h) in
-        let all = ap (λ (m : Message). messageStep x (sender - 1) m .bytes) (is-send (x .setup) bytes h) in
-        let buffer = ap (λ (o : Done). o .buffer)
-        (answered-accepted number (messageStep x (sender - 1) said-in) (refusalHeard marks x sender bytes) (replicate lent 0) e)
-        ∙ ap (λ (b : List ℕ). written b (replicate lent 0)) all in (
-          ap (λ (o : Outcome). o .answer .sent) out,
-          ap₂ (λ (n : ℕ) (b : List ℕ). take n b) (ap (λ (o : Outcome). o .answer .bytes) out) buffer ∙ take-written _ (replicate lent 0),
-        )
+    -- which is answered by an echo
+    send-echoes : tagIn bytes ≡ 1 → doing x it .outcome .answer .sent ≡ Echo
+    unfolding accepted sendStep heard
+    send-echoes h = ap (λ (o : Outcome). o .answer .sent) (out-message _ (is-send (x .setup) bytes h))
 
     -- an echo or a ready
     turn-takes : (b : Side) → tagIn bytes ≡ ear b + 1 → (C : List (List Element)) (f : Four)
@@ -287,8 +271,8 @@ turn x g (deals secret coins lent) = turn-deals x g secret coins lent
 turn x g (gets sender bytes lent) = turn-gets x g sender bytes lent
 turn x g (commanded lent) = turn-commanded x g lent
 
--- A checked send has exactly its echo.
-pub echo-exact : (x : Record) → Good x → (sender lent : ℕ) (bytes : List ℕ) → tagIn bytes ≡ 1
-    → doing x (gets sender bytes lent) .outcome .answer .no ≡ 0 → Echoed (x .setup) bytes (doing x (gets sender bytes lent))
+-- A checked send has its echo.
+pub has-echo : (x : Record) → Good x → (sender lent : ℕ) (bytes : List ℕ) → tagIn bytes ≡ 1
+    → doing x (gets sender bytes lent) .outcome .answer .no ≡ 0 → doing x (gets sender bytes lent) .outcome .answer .sent ≡ Echo
 unfolding doing deliver answered
-echo-exact x g sender lent bytes h e = send-echoes x g sender bytes lent (sym (outcome-number _ _ _) ∙ e) h
+has-echo x g sender lent bytes h e = send-echoes x g sender bytes lent (sym (outcome-number _ _ _) ∙ e) h
