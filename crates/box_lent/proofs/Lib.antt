@@ -1,2 +1,2 @@
--- What the proof of the lent call uses.
-mod Values
+-- The machine values of a record, an answer and an outcome, for walks over them.
+pub mod Values

@@ -40,6 +40,10 @@ pub record-tells : Tells R.the-row (Is R.the-row) (λ x. recordVal x ∷ [])
 unfolding recordVal
 record-tells = LL.tells R.the-type R′.the-laws
 
+pub answer-tells : Tells N.the-row (Is N.the-row) (λ a. answerVal a ∷ [])
+unfolding answerVal
+answer-tells = LL.tells N.the-type N′.the-laws
+
 pub outcome-tells : Tells O.the-row (Is O.the-row) (λ o. outcomeVal o ∷ [])
 unfolding recordVal answerVal
 outcome-tells = LL.tells O.the-type O′.the-laws
@@ -51,6 +55,15 @@ is-answer o vs is = LL.owed O.the-type O′.the-laws o vs is .0
 pub is-next : (o : Outcome) (vs : List Val) → Is O.the-row o vs → Is R.the-row (o .next) (recordVal (o .next) ∷ [])
 unfolding recordVal
 is-next o vs is = LL.owed O.the-type O′.the-laws o vs is .1 .0
+
+pub answer-is : (a : Answer) (vs : List Val) → Is N.the-row a vs → Is N.the-row a (answerVal a ∷ [])
+unfolding answerVal
+answer-is a vs is = LL.owes N.the-type N′.the-laws a (LL.owed N.the-type N′.the-laws a vs is)
+
+pub is-outcome : (o : Outcome) → Is N.the-row (o .answer) (answerVal (o .answer) ∷ []) → Is R.the-row (o .next) (recordVal (o .next) ∷ [])
+    → Is O.the-row o (outcomeVal o ∷ [])
+unfolding recordVal answerVal
+is-outcome o answer next = LL.owes O.the-type O′.the-laws o (answer, (next, tt))
 
 -- the machine types, written out wherever a walk would else compute them to compare them
 abbrev pub recordTy : Ty
@@ -81,6 +94,9 @@ module _ {M : Type 1} (𝓤 : URA M) (H : Heap 𝓤) (A : Atoms 𝓤) where
 
   pub answer-makes : Makes 𝓤 H A N.the-row (Is N.the-row)
   answer-makes = LL.makes N.the-type N′.the-plain 𝓤 H A
+
+  pub outcome-makes : Makes 𝓤 H A O.the-row (Is O.the-row)
+  outcome-makes = LL.makes O.the-type O′.the-plain 𝓤 H A
 
   module _ (W : Given 𝓤 H A) where
     pub record-typed : (x : Record) (vs : List Val) → Is R.the-row x vs → Typed (recordTy ∷ []) vs

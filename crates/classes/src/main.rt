@@ -1,4 +1,4 @@
-// Three classes to their end, each under its heading: every answer, and what the boxes hold then.
+// Four classes to their end, each under its heading: every answer, and what the boxes hold then.
 mod by_hand;
 mod coins;
 mod moves;
@@ -8,6 +8,7 @@ mod twenty;
 
 fn main() {
     by_hand::class();
+    by_hand::lent();
     of_ten::class();
     twenty::classes();
 }

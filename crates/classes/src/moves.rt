@@ -3,7 +3,7 @@
 //
 //     n*.    each box is set up
 //     d1.    box 1 deals; with D its sends are printed too
-//     s13    box 3 gets what box 1 sent it as a send; e, r, h: an echo, a ready, a recovery share
+//     s13    box 3 gets what box 1 sent it as a send; e, r, h: an echo, a ready, a recovery share. With S, E, R, H its record is lent
 //     c1.    box 1 is commanded to recover
 //     w*.    what each box holds is shown
 use printing::numbered;
@@ -68,12 +68,17 @@ pub fn tag_of(letter: u8) -> u8
     ensures { λ r. ⌜ r ≤ 4 ⌝ }
 {
     match letter {
-        b's' => 1,
-        b'e' => 2,
-        b'r' => 3,
-        b'h' => 4,
+        b's' | b'S' => 1,
+        b'e' | b'E' => 2,
+        b'r' | b'R' => 3,
+        b'h' | b'H' => 4,
         _ => 0,
     }
+}
+
+// Whether what is delivered finds the record lent.
+pub fn is_lent(letter: u8) -> bool {
+    letter < b'a'
 }
 
 // The line of a move.

@@ -80,7 +80,11 @@ fn call(
             let part = message(moves::tag_of(letter), u, m.to);
             let at = part.at;
             let end = part.end;
-            box_calls::deliver(x, m.from as u32 + 1, &bytes[at..end], out)
+            let sender = m.from as u32 + 1;
+            if moves::is_lent(letter) {
+                return box_host::deliver(x, sender, &bytes[at..end], out);
+            }
+            box_calls::deliver(x, sender, &bytes[at..end], out)
         }
     }
 }
