@@ -175,7 +175,7 @@ pub fn refused_at_hearing(x: Record, sender: u32, bytes: &[u8]) -> Record
     ensures { λ r. ⌜ r ≡ refusalHeard (hasMatrix (tagIn (now (bytes .entry)))) x sender (now (bytes .entry)) ⌝ }
 {
     let tag = bytes[0];
-    if 3 < tag {
+    if tag == 4 {
         return x;
     }
     record_writing::heard_for(x, tag as usize, (sender - 1) as usize)
