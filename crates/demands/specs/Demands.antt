@@ -313,23 +313,20 @@ module _ (u : SetUp) (s : Sound u) (A : ℕ → Bool) (few : Few u A) (secret se
 -- run, where a command that was refused left none. What the script has the dealer deal is this secret with these coins (a second
 -- deal gets 13); a deal of coins that are out of range, which gets 14, is left as it is. That a deal is of its secret and its coins
 -- is `deal-writes-the-sends`.
-pub two-secrets-look-the-same : (c : Class) → groupKeeps (c .numbers) ≡ true → numbersKeep (own (c .numbers) (c .numbers .d)) ≡ true
-    → Few (c .numbers) (c .breaks) → c .breaks (c .numbers .d) ≡ false
-    → (secret secret′ : ℕ) → secret < order (c .numbers) → secret′ < order (c .numbers)
-    → (coins : List ℕ) → coinsKeep (c .numbers) secret coins ≡ true
-    → (script : List Event) → Uncommanded c (played (c .numbers) secret coins script)
-    → Alike c (played (c .numbers) secret coins script)
-    (played (c .numbers) secret′ (matching (c .numbers) (c .breaks) secret secret′ coins) script)
-two-secrets-look-the-same = Hiding.hides
+module _ (c : Class) (group : groupKeeps (c .numbers) ≡ true) (numbers : numbersKeep (own (c .numbers) (c .numbers .d)) ≡ true)
+    (few : Few (c .numbers) (c .breaks)) (dealer : c .breaks (c .numbers .d) ≡ false)
+    (secret secret′ : ℕ) (low : secret < order (c .numbers)) (low′ : secret′ < order (c .numbers))
+    (coins : List ℕ) (keep : coinsKeep (c .numbers) secret coins ≡ true) where
+  abbrev pub coins* : List ℕ
+  coins* = matching (c .numbers) (c .breaks) secret secret′ coins
 
--- and so it is for a set that answers to what it sees: its strategy says what happens next, by all that it has seen so far
-pub two-secrets-look-the-same-to-any-strategy : (c : Class) → groupKeeps (c .numbers) ≡ true
-    → numbersKeep (own (c .numbers) (c .numbers .d)) ≡ true
-    → Few (c .numbers) (c .breaks) → c .breaks (c .numbers .d) ≡ false
-    → (secret secret′ : ℕ) → secret < order (c .numbers) → secret′ < order (c .numbers)
-    → (coins : List ℕ) → coinsKeep (c .numbers) secret coins ≡ true
-    → (strategy : Strategy) (n : ℕ) → Uncommanded c (played (c .numbers) secret coins (scriptBy c strategy secret coins n))
-    → Alike c (played (c .numbers) secret coins (scriptBy c strategy secret coins n))
-    (played (c .numbers) secret′ (matching (c .numbers) (c .breaks) secret secret′ coins)
-    (scriptBy c strategy secret′ (matching (c .numbers) (c .breaks) secret secret′ coins) n))
-two-secrets-look-the-same-to-any-strategy = Hiding.hides-adaptively
+  pub two-secrets-look-the-same : (script : List Event) → Uncommanded c (played (c .numbers) secret coins script)
+      → Alike c (played (c .numbers) secret coins script) (played (c .numbers) secret′ coins* script)
+  two-secrets-look-the-same = Hiding.hides c group numbers few dealer secret secret′ low low′ coins keep
+
+  -- and so it is for a set that answers to what it sees: its strategy says what happens next, by all that it has seen so far
+  pub two-secrets-look-the-same-to-any-strategy : (strategy : Strategy) (n : ℕ)
+      → Uncommanded c (played (c .numbers) secret coins (scriptBy c strategy secret coins n))
+      → Alike c (played (c .numbers) secret coins (scriptBy c strategy secret coins n))
+      (played (c .numbers) secret′ coins* (scriptBy c strategy secret′ coins* n))
+  two-secrets-look-the-same-to-any-strategy = Hiding.hides-adaptively c group numbers few dealer secret secret′ low low′ coins keep

@@ -181,49 +181,43 @@ module _ (t : Twice) (h : Given t) where
 -- ---- the statement
 
 -- any class whose numbers keep their rules, any set of at most k - 1 boxes without the dealer, any two secrets below q, any
--- coins for the one: with the matching coins for the other, every script that leaves no box commanded looks the same
-pub hides : (c : Class) → groupKeeps (c .numbers) ≡ true → numbersKeep (own (c .numbers) (c .numbers .d)) ≡ true
-    → Few (c .numbers) (c .breaks) → c .breaks (c .numbers .d) ≡ false
-    → (s s′ : ℕ) → s < order (c .numbers) → s′ < order (c .numbers)
-    → (coins : List ℕ) → coinsKeep (c .numbers) s coins ≡ true
-    → (script : List Event) → Uncommanded c (played (c .numbers) s coins script)
-    → Alike c (played (c .numbers) s coins script) (played (c .numbers) s′ (matching (c .numbers) (c .breaks) s s′ coins) script)
-hides c group numbers few dealer s s′ low low′ coins keep script u =
-    alike (record { class = c; s = s; s′ = s′; coins = coins })
-    (record { group-keeps = group; numbers-keep = numbers; few = few; dealer = dealer; low = low; low′ = low′; coins-keep = keep })
-    script u
+-- coins for the one, and the matching coins for the other
+module _ (c : Class) (group : groupKeeps (c .numbers) ≡ true) (numbers : numbersKeep (own (c .numbers) (c .numbers .d)) ≡ true)
+    (few : Few (c .numbers) (c .breaks)) (dealer : c .breaks (c .numbers .d) ≡ false)
+    (s s′ : ℕ) (low : s < order (c .numbers)) (low′ : s′ < order (c .numbers))
+    (coins : List ℕ) (keep : coinsKeep (c .numbers) s coins ≡ true) where
+  abbrev coins* : List ℕ
+  coins* = matching (c .numbers) (c .breaks) s s′ coins
 
--- ---- a set that answers to what it has seen
+  abbrev run : List Event → List Event
+  run = played (c .numbers) s coins
 
--- it sees the same in both runs, so it makes the same script, and both runs look the same
-pub hides-adaptively : (c : Class) → groupKeeps (c .numbers) ≡ true → numbersKeep (own (c .numbers) (c .numbers .d)) ≡ true
-    → Few (c .numbers) (c .breaks) → c .breaks (c .numbers .d) ≡ false
-    → (s s′ : ℕ) → s < order (c .numbers) → s′ < order (c .numbers)
-    → (coins : List ℕ) → coinsKeep (c .numbers) s coins ≡ true
-    → (strategy : Strategy) (n : ℕ) → Uncommanded c (played (c .numbers) s coins (scriptBy c strategy s coins n))
-    → Alike c (played (c .numbers) s coins (scriptBy c strategy s coins n))
-    (played (c .numbers) s′ (matching (c .numbers) (c .breaks) s s′ coins)
-    (scriptBy c strategy s′ (matching (c .numbers) (c .breaks) s s′ coins) n))
-unfolding scriptBy played
-hides-adaptively c group numbers few dealer s s′ low low′ coins keep strategy n u =
-    subst (λ (script : List Event). Alike c (run (scriptBy c strategy s coins n)) (run′ script)) (same n u) (looks (scriptBy c strategy s coins n) u)
-  where
-    coins* : List ℕ
-    coins* = matching (c .numbers) (c .breaks) s s′ coins
+  abbrev run* : List Event → List Event
+  run* = played (c .numbers) s′ coins*
 
-    run : List Event → List Event
-    run = played (c .numbers) s coins
+  -- every script that leaves no box commanded looks the same
+  pub hides : (script : List Event) → Uncommanded c (run script) → Alike c (run script) (run* script)
+  hides =
+      alike (record { class = c; s = s; s′ = s′; coins = coins })
+      (record { group-keeps = group; numbers-keep = numbers; few = few; dealer = dealer; low = low; low′ = low′; coins-keep = keep })
 
-    run′ : List Event → List Event
-    run′ = played (c .numbers) s′ coins*
+  -- ---- a set that answers to what it has seen
 
-    looks : (script : List Event) → Uncommanded c (run script) → Alike c (run script) (run′ script)
-    looks = hides c group numbers few dealer s s′ low low′ coins keep
+  -- it sees the same in both runs, so it makes the same script,
+  same-script : (strategy : Strategy) (n : ℕ) → Uncommanded c (run (scriptBy c strategy s coins n))
+      → scriptBy c strategy s coins n ≡ scriptBy c strategy s′ coins* n
+  unfolding scriptBy played
+  same-script strategy zero u = refl
+  same-script strategy (suc n) u =
+      let script = scriptBy c strategy s coins n in
+      let before = earlier c group numbers _ (run script) u in
+      let same = same-script strategy n before in
+      ap₂ (λ (saw : List (List ℕ)) (es : List Event). strategy n saw ∷ es)
+      (hides script before .bytes ∙ ap (λ (es : List Event). seen c (run* es)) same) same
 
-    same : (n : ℕ) → Uncommanded c (run (scriptBy c strategy s coins n)) → scriptBy c strategy s coins n ≡ scriptBy c strategy s′ coins* n
-    same zero u = refl
-    same (suc n) u =
-        let before = earlier c group numbers _ (run (scriptBy c strategy s coins n)) u in
-        let es = same n before in
-        ap₂ (λ (saw : List (List ℕ)) (script : List Event). strategy n saw ∷ script)
-        (looks (scriptBy c strategy s coins n) before .bytes ∙ ap (λ (script : List Event). seen c (run′ script)) es) es
+  -- and both runs look the same
+  pub hides-adaptively : (strategy : Strategy) (n : ℕ) → Uncommanded c (run (scriptBy c strategy s coins n))
+      → Alike c (run (scriptBy c strategy s coins n)) (run* (scriptBy c strategy s′ coins* n))
+  hides-adaptively strategy n u =
+      subst (λ (script : List Event). Alike c (run (scriptBy c strategy s coins n)) (run* script)) (same-script strategy n u)
+      (hides (scriptBy c strategy s coins n) u)
