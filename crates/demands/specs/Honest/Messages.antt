@@ -1,6 +1,6 @@
 -- What is said where all boxes keep the rules and one secret was dealt: the dealt messages.
 --
--- In order: the deal; what a box says to another, by the kind of message; a message that is one of these; what a call sent to each box,
+-- In order: what a box says to another, by the kind of message; a message that is one of these; what a call sent to each box,
 -- and what comes to one of them; matrices that are written alike are equal.
 -- Assumes nothing.
 use mathlib.Core.Path.{_≡_, refl, sym, ap, _∙_, subst}
@@ -27,8 +27,6 @@ use Rattle.demands.specs.MessageTo.{message-to}
 use Rattle.demands.specs.Own.{own-sound}
 use Rattle.demands.specs.Terms.Dealing.{Sound, order, dealtMatrix, dealtTo, dealtPoint, dealtShare}
 use Rattle.demands.specs.Sharing.{size, order-some}
-
--- ---- the deal
 
 -- ---- what a box says
 
