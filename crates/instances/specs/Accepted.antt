@@ -27,7 +27,7 @@ use Rattle.demands.specs.Terms.Dealing.{dealtTo, dealtPoint}
 use Rattle.demands.specs.Terms.Lives.{answerTo}
 use Rattle.demands.specs.Completeness.{send-accepted, echo-accepted, ready-accepted, share-accepted}
 use Rattle.instances.specs.Replay.{Past, takes, life, came-to, life-lived}
-use Rattle.instances.specs.Life.{D}
+use Rattle.instances.specs.Calls.{D}
 
 -- ---- the calls
 

@@ -25,7 +25,8 @@ use Rattle.demands.specs.Terms.Dealing.{group, order, Sound, dealtShare, dealtP
 use Rattle.demands.specs.Sharing.{shares-give, shares-open}
 use Rattle.demands.specs.Terms.Lives.{keptFor}
 use Rattle.demands.specs.Completeness.{dealt-share-kept}
-use Rattle.instances.specs.Life.{D, before, moment, lowest, then, one-life}
+use Rattle.instances.specs.Calls.{D, before, moment}
+use Rattle.instances.specs.Life.{lowest, then, one-life}
 
 -- ---- two boxes
 
@@ -110,7 +111,7 @@ dealt-passes : matrixPasses (group class) 2 D ≡ true
 unfolding computed
 dealt-passes = refl
 
-coins-keep : coinsKeep class 5 coins ≡ true
+pub coins-keep : coinsKeep class 5 coins ≡ true
 unfolding computed
 coins-keep = refl
 

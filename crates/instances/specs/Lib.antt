@@ -8,9 +8,14 @@
 pub mod EachNumber
 pub mod Replay
 pub mod SameLists
+pub mod Calls
 pub mod Life
+pub mod LifeSays
 pub mod Accepted
 pub mod Boxes
+pub mod Sent
+pub mod Heard
+pub mod AnyMake
 pub mod Sheets
 pub mod Map
 pub mod Script

@@ -23,7 +23,7 @@ use Rattle.rules.specs.Computed.{computed}
 use Rattle.rules.specs.HandSums.{pair}
 use Rattle.demands.specs.Terms.Sheet.{Opens, numbers, matrix, says, verified, secret}
 use Rattle.demands.specs.SheetOpens.{sheet-prints, sheet-opens, sheet-verified, sheet-silent}
-use Rattle.instances.specs.Life.{D}
+use Rattle.instances.specs.Calls.{D}
 
 -- ---- the sheet
 
