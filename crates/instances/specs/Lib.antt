@@ -15,6 +15,7 @@ pub mod Accepted
 pub mod Boxes
 pub mod Sent
 pub mod Heard
+pub mod OtherMatrix
 pub mod AnyMake
 pub mod Sheets
 pub mod Map
