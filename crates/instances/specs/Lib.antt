@@ -16,6 +16,7 @@ pub mod Boxes
 pub mod Sent
 pub mod Heard
 pub mod OtherMatrix
+pub mod HonestClass
 pub mod AnyMake
 pub mod Sheets
 pub mod Map
