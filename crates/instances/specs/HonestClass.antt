@@ -3,7 +3,7 @@
 --
 -- In order: the class and its history; what is computed of it; what it comes to; that there is one deal; what the theorems say of it.
 -- Assumes nothing.
-use mathlib.Core.Path.{_≡_, refl, sym, ap, _∙_}
+use mathlib.Core.Path.{_≡_, refl, ap, _∙_}
 use mathlib.Core.Bool.{true, false}
 use mathlib.Core.List.{List, [], _∷_, _++_, map}
 use Prim.Native.Nat.{ℕ}
@@ -22,14 +22,14 @@ use Rattle.rules.specs.Numbers.{groupKeeps, isBox, numbersKeep}
 use Rattle.rules.specs.Record.{slotAt, placeAt}
 use Rattle.rules.specs.Computed.{computed}
 use Rattle.rules.specs.HandSums.{class, coins, four, pair}
-use Rattle.demands.specs.Terms.Histories.{deals, doing, after, messageTo, Class, keeps, mayBreak, own, Event, deal-at, hand-on, command-at, calls, recordOf}
+use Rattle.demands.specs.Terms.Histories.{deals, doing, after, messageTo, Class, keeps, mayBreak, Event, deal-at, hand-on, command-at, calls, recordOf}
 use Rattle.demands.specs.Terms.Dealing.{dealtPoint, dealtShare}
 use Rattle.demands.specs.Terms.Honest.{Past, AllKeep, DealsOnly}
 use Rattle.demands.specs.Histories.{calls-past}
 use Rattle.demands.specs.Honest.{dealt-once, dealt-keeps}
 use Rattle.demands.specs.Demands.{held-points-are-dealt, completed-share-is-dealt, recovered-is-the-secret}
 use Rattle.instances.specs.Replay as Replay
-use Rattle.instances.specs.Replay.{takes, life, Run, boxIn, found, boxNext, seenNext, next, replay, told-of, replay-boxes}
+use Rattle.instances.specs.Replay.{takes, life, Run, boxIn, found, boxNext, seenNext, next, replay, told-of, replayed}
 
 -- ---- the history
 
@@ -118,8 +118,8 @@ record Looks : Type 0 where
   box-2 : Sight
   box-3 : Sight
 
-abbrev look : Replay.Past → Replay.Past → Replay.Past → Looks
-look b c d = record { box-1 = sightOf b; box-2 = sightOf c; box-3 = sightOf d }
+abbrev look : List (List ℕ) → Replay.Past → Replay.Past → Replay.Past → Looks
+look saw b c d = record { box-1 = sightOf b; box-2 = sightOf c; box-3 = sightOf d }
 
 abbrev sight-1 : Sight
 sight-1 =
@@ -151,7 +151,10 @@ sight-3 =
       held = Held (four 1 0 1 0);
     }
 
-looks : look (boxIn (replay room history) 1) (boxIn (replay room history) 2) (boxIn (replay room history) 3)
+abbrev lookAt : Run → Looks
+lookAt run = look (run .saw) (boxIn run 1) (boxIn run 2) (boxIn run 3)
+
+looks : lookAt (replay room history)
     ≡ record { box-1 = sight-1; box-2 = sight-2; box-3 = sight-3 }
 unfolding computed doing messageTo keeps mayBreak takes life found boxNext seenNext next replay
 looks = refl
@@ -172,13 +175,7 @@ pub record Happens : Type 0 where
 pub happens : Happens
 unfolding isBox
 happens =
-    let box = told-of room history in
-    let run = replay room history in
-    let all : look (box 1) (box 2) (box 3) ≡ record { box-1 = sight-1; box-2 = sight-2; box-3 = sight-3 } =
-    ap (λ b. look b (box 2) (box 3)) (sym (replay-boxes room history 1 refl))
-    ∙ ap (λ b. look (boxIn run 1) b (box 3)) (sym (replay-boxes room history 2 refl))
-    ∙ ap (λ b. look (boxIn run 1) (boxIn run 2) b) (sym (replay-boxes room history 3 refl))
-    ∙ looks in
+    let all = replayed room look history 1 2 3 refl refl refl ∙ looks in
     record { box-1 = ap (λ l. l .box-1) all; box-2 = ap (λ l. l .box-2) all; box-3 = ap (λ l. l .box-3) all }
 
 -- ---- there is one deal

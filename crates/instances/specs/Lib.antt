@@ -22,3 +22,4 @@ pub mod Sheets
 pub mod Map
 pub mod Script
 pub mod Hidden
+pub mod AnyStrategy
