@@ -55,19 +55,23 @@ moment = gets 2 ready-of-2 2048
 
 -- the same ready once more; it completes by the ready of box 3, and is told to recover in too short a buffer
 abbrev completing : List Call
-completing = commanded 2047 ∷ says 3 (ready D (point 3)) ∷ says 2 (ready D (point 2)) ∷ []
+completing = commanded 2047 ∷ says 3 (ready D (point 3)) ∷ moment ∷ []
 
 abbrev pub finished : List Call
 finished = completing ++ moment ∷ before
 
--- it is told to recover, and once more; a wrong share of 2 (P4)
-abbrev pub told : List Call
-told = commanded 2048 ∷ commanded 2048 ∷ finished
+-- it is told to recover, and once more
+abbrev commands : List Call
+commands = commanded 2048 ∷ commanded 2048 ∷ []
 
+abbrev pub told : List Call
+told = commands ++ finished
+
+-- (0, 0), which does not pass for box 2 (P4)
 abbrev pub wrong-share : List ℕ
 wrong-share = bytesOf class (recovery (pair 0 0))
 
--- it recovers by the shares of 1, which comes twice, and 3
+-- box 2 sends it; the box recovers by the shares of 1, which comes twice, and 3
 abbrev recovering : List Call
 recovering =
     says 3 (recovery (share 3)) ∷ says 1 (recovery (share 1)) ∷ says 1 (recovery (share 1)) ∷ gets 2 wrong-share 2048 ∷ []
@@ -77,4 +81,4 @@ play = recovering ++ told
 
 -- all since ready was sent
 abbrev pub later : List Call
-later = recovering ++ commanded 2048 ∷ commanded 2048 ∷ completing
+later = recovering ++ (commands ++ completing)

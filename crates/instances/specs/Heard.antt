@@ -5,7 +5,7 @@
 use mathlib.Core.Path.{_≡_, refl, sym, ap, subst, _∙_}
 use mathlib.Core.Bool.{true, false}
 use mathlib.Core.List.{List, _∷_}
-use mathlib.Core.Logic.{⊎-elim}
+use mathlib.Core.Logic.{⊎-elim, _≢_}
 use Prim.Native.Nat.{ℕ, _-_, _≤_}
 use native.Mathlib.Omega.{arith}
 use lib.Dec.{eqb}
@@ -32,21 +32,24 @@ module _ (cs : List Call) (sender : ℕ) (bytes : List ℕ) (n : ℕ) (refusal :
   abbrev it : Call
   it = gets sender bytes 2048
 
+  refused : doing (after class cs) it .outcome .answer .no ≢ 0
+  refused e = eqb-false n 0 refusal (sym gets-n ∙ e)
+
   marks : Heard n (tagIn bytes) → OneMark (after class cs) (after class (it ∷ cs)) (tagIn bytes) (sender - 1)
   marks h =
       ⊎-elim (λ w. absurd (w .0 (subst (λ n. Heard n (tagIn bytes)) (sym gets-n) h))) (λ w. w .1)
-      (refusal-marks-one-at-most class (one-life .taken) cs sender 2048 bytes (λ e. eqb-false n 0 refusal (sym gets-n ∙ e)))
+      (refusal-marks-one-at-most class (one-life .taken) cs sender 2048 bytes refused)
 
   leaves : (Heard n (tagIn bytes) → ⊥) → after class (it ∷ cs) ≡ after class cs
   leaves h =
       ⊎-elim (λ w. w .1) (λ w. absurd (h (subst (λ n. Heard n (tagIn bytes)) gets-n (w .0))))
-      (refusal-marks-one-at-most class (one-life .taken) cs sender 2048 bytes (λ e. eqb-false n 0 refusal (sym gets-n ∙ e)))
+      (refusal-marks-one-at-most class (one-life .taken) cs sender 2048 bytes refused)
 
 -- ---- the messages
 
-tags : (tagIn first ≡ 1) × (tagIn said-2 ≡ 2) × (tagIn wrong ≡ 2) × (tagIn wrong-share ≡ 4)
+tags : (tagIn said-2 ≡ 2) × (tagIn wrong ≡ 2) × (tagIn wrong-share ≡ 4)
 unfolding computed
-tags = (refl, refl, refl, refl)
+tags = (refl, refl, refl)
 
 pub record HeardNow : Type 0 where
   -- the echo of box 2 is accepted: it was not heard for echo, and is; box 3 is as before
@@ -74,11 +77,11 @@ heard-now =
     let seven : doing (after class echoed) (gets 1 first 2048) .outcome .answer .no ≡ 7 = ap (λ ns. getD ns 15 0) (l .numbers) in
     let fails : doing (after class told) (gets 2 wrong-share 2048) .outcome .answer .no ≡ 10 = ap (λ ns. getD ns 3 0) (l .numbers) in
     let echo =
-    subst (λ tag. NowHeard (after class twice) (after class hearing) tag 1) (tags .1)
+    subst (λ tag. NowHeard (after class twice) (after class hearing) tag 1) (tags .0)
     (accepted-is-heard class (l .taken) twice 2 2048 said-2 accepted) in
     let wrong-echo =
-    subst (λ tag. OneMark (after class hearing) (after class (gets 3 wrong 2048 ∷ hearing)) tag 2) (tags .2)
-    (marks hearing 3 wrong 10 refl ten (refl, subst (λ tag. tag ≤ 3) (sym (tags .2)) (omega arith))) in
+    subst (λ tag. OneMark (after class hearing) (after class (gets 3 wrong 2048 ∷ hearing)) tag 2) (tags .1)
+    (marks hearing 3 wrong 10 refl ten (refl, subst (λ tag. tag ≤ 3) (sym (tags .1)) (omega arith))) in
     record {
       echo = echo;
       was = l .heard-2;
@@ -92,5 +95,5 @@ heard-now =
       second-send = leaves echoed 1 first 7 refl seven (λ h. true≢false (sym (h .0)));
       fails = fails;
       failed-share =
-          leaves told 2 wrong-share 10 refl fails (λ h. let low : 4 ≤ 3 = subst (λ tag. tag ≤ 3) (tags .3) (h .1) in omega arith);
+          leaves told 2 wrong-share 10 refl fails (λ h. let low : 4 ≤ 3 = subst (λ tag. tag ≤ 3) (tags .2) (h .1) in omega arith);
     }

@@ -1,7 +1,7 @@
--- Demand 3 of the script of Script, in which the set lies: both runs computed, and what `hides` says of them. Lists have the latest
--- first.
+-- Demand 3 of the script of Script, in which the set lies: both runs computed, and what the theorem of `Demands` says of them. Lists
+-- have the latest first.
 --
--- In order: what is computed of both runs; what it comes to; that the two secrets differ; what `hides` supposes, and says.
+-- In order: what is computed of both runs; what it comes to; that the two secrets differ; what the theorem supposes, and says.
 -- Assumes nothing.
 use mathlib.Core.Path.{_≡_, refl, sym, ap, subst, _∙_}
 use mathlib.Core.Bool.{Bool, true, false}
@@ -28,7 +28,7 @@ use Rattle.demands.specs.Terms.Histories.{doing, messageTo, keeps, mayBreak, ow
 use Rattle.demands.specs.Terms.Dealing.{order, dealtShare}
 use Rattle.demands.specs.Terms.Secrets.{matching}
 use Rattle.demands.specs.Terms.Secrets.{played, Uncommanded, Alike}
-use Rattle.demands.specs.Hiding.{hides}
+use Rattle.demands.specs.Demands.{two-secrets-look-the-same}
 use Rattle.instances.specs.Replay.{
   Past,
   takes,
@@ -220,7 +220,7 @@ pub lied-to : (dealtShare numbers 5 coins 1 ≡ pair 2 2) × (dealtShare numbers
 unfolding computed
 lied-to = (refl, refl)
 
--- ---- what `hides` supposes, and says
+-- ---- what the theorem supposes, and says
 
 pub group-keeps : groupKeeps numbers ≡ true
 unfolding computed
@@ -231,4 +231,5 @@ unfolding computed
 numbers-keep = refl
 
 pub hidden : Alike room (played numbers 5 coins script) (played numbers 0 (matching numbers set 5 0 coins) script)
-hidden = hides room group-keeps numbers-keep few refl 5 0 low-5 low-0 coins coins-keep script (with-5 .uncommanded)
+hidden =
+    two-secrets-look-the-same room group-keeps numbers-keep few refl 5 0 low-5 low-0 coins coins-keep script (with-5 .uncommanded)

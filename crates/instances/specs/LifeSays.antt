@@ -51,7 +51,7 @@ use Rattle.instances.specs.Life.{lowest, then, end, one-life}
 
 -- ---- once
 
--- at most once, and each of it happens
+-- at most once; that it happens stands in Life
 pub record Once : Type 0 where
   pub deals-once : howMany (λ (a : Answer). isSend (a .sent)) (answers class play) ≤ 1
   pub echoes-once : howMany (λ (a : Answer). isEcho (a .sent)) (answers class play) ≤ 1
