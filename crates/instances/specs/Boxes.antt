@@ -61,7 +61,7 @@ two nought P m m′ a a′ low rise high p p′ =
 
 -- ---- dealt and checked ones
 
-class-sound : Sound class
+pub class-sound : Sound class
 unfolding computed
 class-sound = record { group-keeps = refl; sizes-keep = refl }
 
@@ -137,4 +137,5 @@ dealt-to-1 = refl
 
 pub kept-dealt : keptFor then D ≡ There (pair 7 8)
 kept-dealt =
-    honest-points-give-the-dealt-share class (one-life .taken) before moment D (one-life .sends-ready) 5 coins coins-keep held-dealt ∙ ap There dealt-to-1
+    honest-points-give-the-dealt-share class (one-life .taken) before moment D (one-life .sends-ready) 5 coins coins-keep held-dealt
+    ∙ ap There dealt-to-1

@@ -13,7 +13,7 @@ use Rattle.demands.specs.Terms.Histories.{Call, deals, gets, commanded}
 abbrev pub D : List (List Element)
 D = C 5 coins
 
-abbrev says : ℕ → Message → Call
+abbrev pub says : ℕ → Message → Call
 says m message = gets m (bytesOf class message) 2048
 
 -- box 1, the dealer: it is to deal in too short a buffer, and without coins; it deals

@@ -18,16 +18,18 @@ use Rattle.rules.specs.declared.Pair.{Pair}
 use Rattle.rules.specs.declared.Point.{Point}
 use Rattle.rules.specs.declared.Point.the-variants.{Held}
 use Rattle.rules.specs.declared.Record.{Record}
-use Rattle.rules.specs.Numbers.{groupKeeps, isBox, numbersKeep}
+use Rattle.rules.specs.Numbers.{isBox, numbersKeep}
 use Rattle.rules.specs.Record.{slotAt, placeAt}
 use Rattle.rules.specs.Computed.{computed}
 use Rattle.rules.specs.HandSums.{class, coins, four, pair}
-use Rattle.demands.specs.Terms.Histories.{deals, doing, after, messageTo, Class, keeps, mayBreak, Event, deal-at, hand-on, command-at, calls, recordOf}
+use Rattle.demands.specs.Terms.Histories.{deals, doing, after, messageTo, Class, keeps, mayBreak, Event, deal-at, command-at, calls, recordOf}
 use Rattle.demands.specs.Terms.Dealing.{dealtPoint, dealtShare}
 use Rattle.demands.specs.Terms.Honest.{Past, AllKeep, DealsOnly}
 use Rattle.demands.specs.Histories.{calls-past}
 use Rattle.demands.specs.Honest.{dealt-once, dealt-keeps}
 use Rattle.demands.specs.Demands.{held-points-are-dealt, completed-share-is-dealt, recovered-is-the-secret}
+use Rattle.instances.specs.Boxes.{class-sound}
+use Rattle.instances.specs.Script.{handed}
 use Rattle.instances.specs.Replay as Replay
 use Rattle.instances.specs.Replay.{takes, life, Run, boxIn, found, boxNext, seenNext, next, replay, told-of, replayed}
 
@@ -35,9 +37,6 @@ use Rattle.instances.specs.Replay.{takes, life, Run, boxIn, found, boxNe
 
 abbrev room : Class
 room = record { numbers = class; breaks = λ _. false }
-
-abbrev handed : ℕ → ℕ → ℕ → Event
-handed from to place = hand-on from to place 2048
 
 -- the dealer is lent too short a buffer, and deals
 abbrev early : List Event
@@ -180,10 +179,6 @@ happens =
 
 -- ---- there is one deal
 
-group-keeps : groupKeeps class ≡ true
-unfolding computed
-group-keeps = refl
-
 numbers-keep : numbersKeep class ≡ true
 unfolding computed
 numbers-keep = refl
@@ -199,12 +194,12 @@ in-history = calls-past room dealt history 1 (since, refl)
 all-keep : AllKeep room 5 coins
 all-keep =
     record {
-      deal = dealt-keeps room group-keeps numbers-keep history 5 coins 2048 (calls room early 1) in-history accepted;
+      deal = dealt-keeps room (class-sound .group-keeps) numbers-keep history 5 coins 2048 (calls room early 1) in-history accepted;
       boxes = λ i b. refl;
     }
 
 pub one-deal : DealsOnly room 5 coins history
-one-deal = dealt-once room group-keeps numbers-keep history 5 coins 2048 (calls room early 1) in-history accepted
+one-deal = dealt-once room (class-sound .group-keeps) numbers-keep history 5 coins 2048 (calls room early 1) in-history accepted
 
 -- ---- what the theorems say of it
 

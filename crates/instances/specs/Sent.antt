@@ -176,8 +176,8 @@ placeIn (With s) = s
 pub record EveryByte : Type 0 where
   pub of-the-deal : wrote (doing (after class early) (deals 5 coins 2048)) ≡ sends
   pub of-the-send : wrote (doing (after class start) (gets 1 first 2048)) ≡ echoes
-  -- the second ready; an echo, which changes the counts alone, and a send that is refused, send nothing
   pub of-the-ready : wrote (doing (after class before) moment) ≡ readies
+  -- an echo, which is counted, and a send that is refused send nothing
   pub of-the-echo : wrote (doing (after class twice) (gets 2 said-2 2048)) ≡ []
   pub of-the-second-send : wrote (doing (after class echoed) (gets 1 first 2048)) ≡ []
   pub of-the-command : wrote (doing (after class finished) (commanded 2048)) ≡ shares

@@ -89,7 +89,10 @@ sheet-says =
     let box-3 = sheet-verifies-what-is-said sheet 2 (pair 0 0) (omega arith) (r .verified-3) in
     record {
       prints = sheet-prints-its-secret sheet opens ∙ ap₂ _++_ (r .boxes) (r .last);
-      opens = ap (λ (p : Pair). committed G (p .first .0) (p .second .0)) (sym (r .gives)) ∙ sheet-secret-opens sheet opens ∙ r .first-entry;
+      opens =
+          ap (λ (p : Pair). committed G (p .first .0) (p .second .0)) (sym (r .gives))
+          ∙ sheet-secret-opens sheet opens
+          ∙ r .first-entry;
       says-3 = box-3 .0;
       passes-3 = box-3 .1;
       verified-2 = silent-box-is-not-verified sheet 1 (omega arith) (r .says-2);
