@@ -1,8 +1,8 @@
 -- Completeness in a class: what the dealer and box 2 of document 01's hand sums send is accepted at a box that has made calls of
 -- its own. Lists have the latest first.
 --
--- In order: the calls of boxes 1, 2 and 3; what is computed of them; what it comes to; what the statements of Completeness say
--- of it.
+-- In order: the calls of boxes 1, 2 and 3; what is computed of them; what it comes to; what the theorems of `Demands`
+-- say of it.
 -- Assumes nothing.
 use mathlib.Core.Path.{_≡_, refl, sym, ap, ap₂, _∙_}
 use mathlib.Core.Bool.{Bool, true, false}
@@ -17,22 +17,19 @@ use Rattle.rules.specs.declared.Kept.the-variants.{Absent}
 use Rattle.rules.specs.declared.Record.{Record}
 use Rattle.rules.specs.declared.Sent.{Sent}
 use Rattle.rules.specs.declared.Sent.the-variants.{Send, Echo, Ready, Recovery}
-use Rattle.rules.specs.Messages.{Message, send, echo, ready, bytesOf}
+use Rattle.rules.specs.Messages.{send, echo, ready}
 use Rattle.rules.specs.Record.{slotAt, matrixOf, sameMatrix, heardFor, zeroRecord}
 use Rattle.rules.specs.Answers.{Done, setUp}
 use Rattle.rules.specs.Computed.{computed}
 use Rattle.rules.specs.HandSums.{class, coins}
-use Rattle.demands.specs.Terms.Histories.{Call, deals, gets, commanded, doing, after, wrote, messageTo, own}
+use Rattle.demands.specs.Terms.Histories.{Call, deals, commanded, doing, after, wrote, messageTo, own}
 use Rattle.demands.specs.Terms.Dealing.{dealtTo, dealtPoint}
 use Rattle.demands.specs.Terms.Lives.{answerTo}
-use Rattle.demands.specs.Completeness.{send-accepted, echo-accepted, ready-accepted, share-accepted}
+use Rattle.demands.specs.Demands.{sends-are-accepted, echoes-are-accepted, readies-are-accepted, shares-are-accepted}
 use Rattle.instances.specs.Replay.{Past, takes, life, came-to, life-lived}
-use Rattle.instances.specs.Life.{D}
+use Rattle.instances.specs.Calls.{D, says}
 
 -- ---- the calls
-
-abbrev says : ℕ → Message → Call
-says m message = gets m (bytesOf class message) 2048
 
 -- what box j gets of the dealer, and of box m
 abbrev gets-send : ℕ → Call
@@ -197,7 +194,7 @@ sends =
       recovered = ap (λ l. l .recovered) all;
     }
 
--- ---- what the statements of Completeness say of it
+-- ---- what the theorems say of it
 
 -- the answer of box j to what a call of box i sends it
 abbrev answer : ℕ → ℕ → List Call → Call → List Call → ℕ
@@ -213,10 +210,16 @@ pub accepted : Accepted
 accepted =
     let s = sends in
     record {
-      send = send-accepted class 1 2 (taken .0) (taken .1) dealer early (deals 5 coins 2048) 2048 (omega arith) (s .sends) (s .send-new);
-      echo = echo-accepted class 2 3 (taken .1) (taken .2) early begun (gets-send 2) 2048 (omega arith) (s .echoes) (s .echo-new);
-      ready = ready-accepted class 2 3 (taken .1) (taken .2) echoed readied (gets-echo 4 2) 2048 (omega arith) (s .readies) (s .ready-new);
+      send =
+          sends-are-accepted class 1 2 (taken .0) (taken .1) dealer early (deals 5 coins 2048) 2048 (omega arith)
+          (s .sends) (s .send-new);
+      echo =
+          echoes-are-accepted class 2 3 (taken .1) (taken .2) early begun (gets-send 2) 2048 (omega arith)
+          (s .echoes) (s .echo-new);
+      ready =
+          readies-are-accepted class 2 3 (taken .1) (taken .2) echoed readied (gets-echo 4 2) 2048 (omega arith)
+          (s .readies) (s .ready-new);
       share =
-          share-accepted class 2 3 (taken .1) (taken .2) completed recovering (commanded 2048) 2048 (omega arith) 0 0
+          shares-are-accepted class 2 3 (taken .1) (taken .2) completed recovering (commanded 2048) 2048 (omega arith) 0 0
           (s .shares) (s .completion-2) (s .completion-3) (s .same) (s .told) (s .recovered) (s .share-new);
     }

@@ -1,7 +1,7 @@
--- Points and shares of different boxes, as the statements of Sharing and Completeness suppose them, of the same deal.
+-- Points and shares of different boxes, as the theorems of `Demands` suppose them, of the same deal.
 --
--- In order: two boxes of the class; dealt and checked ones, and P8; what the statements of Sharing say of them; the points held in
--- a life, and what Completeness says of the pair kept.
+-- In order: two boxes of the class; dealt and checked ones, and P8; what the theorems say of them; the points held in a life,
+-- and what the theorems say of the pair kept.
 -- Assumes nothing.
 use mathlib.Core.Path.{_≡_, refl, sym, ap, subst, _∙_}
 use mathlib.Core.Bool.{true}
@@ -22,10 +22,10 @@ use Rattle.rules.specs.Answers.{noPair}
 use Rattle.rules.specs.Computed.{computed}
 use Rattle.rules.specs.HandSums.{class, coins, pair, point}
 use Rattle.demands.specs.Terms.Dealing.{group, order, Sound, dealtShare, dealtPoint, Different}
-use Rattle.demands.specs.Sharing.{shares-give, shares-open}
 use Rattle.demands.specs.Terms.Lives.{keptFor}
-use Rattle.demands.specs.Completeness.{dealt-share-kept}
-use Rattle.instances.specs.Life.{D, before, moment, lowest, then, one-life}
+use Rattle.demands.specs.Demands.{dealt-shares-give-the-secret, verified-shares-open, honest-points-give-the-dealt-share}
+use Rattle.instances.specs.Calls.{D, before, moment}
+use Rattle.instances.specs.Life.{lowest, then, one-life}
 
 -- ---- two boxes
 
@@ -61,7 +61,7 @@ two nought P m m′ a a′ low rise high p p′ =
 
 -- ---- dealt and checked ones
 
-class-sound : Sound class
+pub class-sound : Sound class
 unfolding computed
 class-sound = record { group-keeps = refl; sizes-keep = refl }
 
@@ -82,7 +82,7 @@ pub record Differ : Type 0 where
   pub checked-shares : Different class noPair shares (λ m x. shareCheck (group class) 2 D m x ≡ true)
   pub dealt-points : Different class zeroFour held (λ m f. f ≡ dealtPoint class 5 coins m 1)
   pub checked-points : Different class zeroFour held (λ m f. pointCheck (group class) 2 D 1 m f ≡ true)
-  -- P8: checked shares of which one was not dealt open the same entry and give another pair, so `shares-open` is all that can
+  -- P8: checked shares of which one was not dealt open the same entry and give another pair, so `verified-shares-open` is all that can
   -- be said of checked ones
   pub other-shares : Different class noPair others (λ m x. shareCheck (group class) 2 D m x ≡ true)
   pub gives : recoveredFrom (order class) shares ≡ pair 5 1
@@ -104,23 +104,23 @@ differ =
       gives-other = refl;
     }
 
--- ---- what the statements of Sharing say of them
+-- ---- what the theorems say of them
 
 dealt-passes : matrixPasses (group class) 2 D ≡ true
 unfolding computed
 dealt-passes = refl
 
-coins-keep : coinsKeep class 5 coins ≡ true
+pub coins-keep : coinsKeep class 5 coins ≡ true
 unfolding computed
 coins-keep = refl
 
 pub dealt-give : recoveredFrom (order class) shares .first .0 ≡ 5
-dealt-give = shares-give class class-sound 5 coins coins-keep shares (differ .dealt-shares) .0
+dealt-give = dealt-shares-give-the-secret class class-sound 5 coins coins-keep shares (differ .dealt-shares) .0
 
 pub others-open : committed (group class) 3 4 ≡ entry D 0 0
 others-open =
     ap (λ (s : Pair). committed (group class) (s .first .0) (s .second .0)) (sym (differ .gives-other))
-    ∙ shares-open class class-sound D dealt-passes others (differ .other-shares)
+    ∙ verified-shares-open class class-sound D dealt-passes others (differ .other-shares)
 
 -- ---- the points held in a life when ready is sent
 
@@ -137,4 +137,5 @@ dealt-to-1 = refl
 
 pub kept-dealt : keptFor then D ≡ There (pair 7 8)
 kept-dealt =
-    dealt-share-kept class (one-life .taken) before moment D (one-life .sends-ready) 5 coins coins-keep held-dealt ∙ ap There dealt-to-1
+    honest-points-give-the-dealt-share class (one-life .taken) before moment D (one-life .sends-ready) 5 coins coins-keep held-dealt
+    ∙ ap There dealt-to-1

@@ -1,7 +1,7 @@
--- Demand 3 of the script of Script, in which the set lies: both runs computed, and what `hides` says of them. Lists have the latest
--- first.
+-- Demand 3 of the script of Script, in which the set lies: both runs computed, and what the theorem of `Demands` says of them. Lists
+-- have the latest first.
 --
--- In order: what is computed of both runs; what it comes to; that the two secrets differ; what `hides` supposes, and says.
+-- In order: what is computed of both runs; what it comes to; that the two secrets differ; what the theorem supposes, and says.
 -- Assumes nothing.
 use mathlib.Core.Path.{_≡_, refl, sym, ap, subst, _∙_}
 use mathlib.Core.Bool.{Bool, true, false}
@@ -28,7 +28,7 @@ use Rattle.demands.specs.Terms.Histories.{doing, messageTo, keeps, mayBreak, ow
 use Rattle.demands.specs.Terms.Dealing.{order, dealtShare}
 use Rattle.demands.specs.Terms.Secrets.{matching}
 use Rattle.demands.specs.Terms.Secrets.{played, Uncommanded, Alike}
-use Rattle.demands.specs.Hiding.{hides}
+use Rattle.demands.specs.Demands.{two-secrets-look-the-same}
 use Rattle.instances.specs.Replay.{
   Past,
   takes,
@@ -41,8 +41,7 @@ use Rattle.instances.specs.Replay.{
   next,
   replay,
   told-of,
-  replay-boxes,
-  replay-seen,
+  replayed,
 }
 use Rattle.instances.specs.SameLists.{sameList, sameLists, same-lists}
 use Rattle.instances.specs.Script.{numbers, set, room, few, coins, coins-keep, D, point, low-5, low-0, coins*, matches, lie, rival, script, toSet}
@@ -71,7 +70,7 @@ record Looks : Type 0 where
   other-e : ℕ
   lied : Point
 
-abbrev sightOf : Past → ℕ → Sight
+abbrev pub sightOf : Past → ℕ → Sight
 sightOf b s =
     record {
       told = map (λ (a : Answer). a .no) (b .told);
@@ -156,7 +155,7 @@ pub record Happens (es : List Event) (p₁ p₃ p₅ : Pair) : Type 0 where
   pub uncommanded : Uncommanded room es
 
 -- boxes 1, 3 and 5 keep the rules
-the-others : (P : ℕ → Type 0) → P 1 → P 3 → P 5 → (i : ℕ) → keeps room i ≡ true → P i
+pub the-others : (P : ℕ → Type 0) → P 1 → P 3 → P 5 → (i : ℕ) → keeps room i ≡ true → P i
 unfolding keeps isBox
 the-others P a b c zero k = absurd (true≢false (sym k))
 the-others P a b c (suc zero) k = a
@@ -171,14 +170,7 @@ the-others P a b c (suc (suc (suc (suc (suc (suc i)))))) k =
 as-computed : (es : List Event) (p₁ p₃ p₅ : Pair) → lookAt (replay room es) ≡ sights p₁ p₃ p₅ → Happens es p₁ p₃ p₅
 unfolding isBox
 as-computed es p₁ p₃ p₅ h =
-    let run = replay room es in
-    let box = told-of room es in
-    let all : look (seen room es) (box 1) (box 3) (box 5) ≡ sights p₁ p₃ p₅ =
-    ap (λ saw. look saw (box 1) (box 3) (box 5)) (sym (replay-seen room es))
-    ∙ ap (λ b. look (run .saw) b (box 3) (box 5)) (sym (replay-boxes room es 1 refl))
-    ∙ ap (λ b. look (run .saw) (boxIn run 1) b (box 5)) (sym (replay-boxes room es 3 refl))
-    ∙ ap (λ b. look (run .saw) (boxIn run 1) (boxIn run 3) b) (sym (replay-boxes room es 5 refl))
-    ∙ h in
+    let all = replayed room look es 1 3 5 refl refl refl ∙ h in
     record {
       saw = same-lists (seen room es) toSet (ap (λ l. l .saw) all);
       box-1 = ap (λ l. l .box-1) all;
@@ -228,15 +220,16 @@ pub lied-to : (dealtShare numbers 5 coins 1 ≡ pair 2 2) × (dealtShare numbers
 unfolding computed
 lied-to = (refl, refl)
 
--- ---- what `hides` supposes, and says
+-- ---- what the theorem supposes, and says
 
-group-keeps : groupKeeps numbers ≡ true
+pub group-keeps : groupKeeps numbers ≡ true
 unfolding computed
 group-keeps = refl
 
-numbers-keep : numbersKeep (own numbers 1) ≡ true
+pub numbers-keep : numbersKeep (own numbers 1) ≡ true
 unfolding computed
 numbers-keep = refl
 
 pub hidden : Alike room (played numbers 5 coins script) (played numbers 0 (matching numbers set 5 0 coins) script)
-hidden = hides room group-keeps numbers-keep few refl 5 0 low-5 low-0 coins coins-keep script (with-5 .uncommanded)
+hidden =
+    two-secrets-look-the-same room group-keeps numbers-keep few refl 5 0 low-5 low-0 coins coins-keep script (with-5 .uncommanded)

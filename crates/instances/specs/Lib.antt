@@ -1,17 +1,25 @@
--- Computed plays: one in which every answer number is met; and histories that meet what statements of `demands` suppose of
--- sharing, of completeness, of the life of a box, of the recovery sheet and in demand 3, and in which something happens, so that
--- none is met by a useless box alone.
+-- Computed plays: one in which every answer number is met; and an instance for each theorem of `Demands`: a life or a history that
+-- meets what it supposes, and in which something happens, so that none is met by a useless box alone.
 --
--- In order: each answer number; histories replayed; equal lists; a life in which all of demand 2 happens; a class in which what is
--- sent is accepted; points and shares of different boxes; document 01's sheet; P9 out of the map of coins; a script for demand 3,
--- and its two runs.
+-- In order: each answer number; histories replayed; equal lists. A life in which all of demand 2 happens: its calls, what it comes to,
+-- what the theorems say of it, points and shares of different boxes, its bytes, who is heard, a box of any make. A life with readies
+-- for another matrix; a class in which what is sent is accepted; a class in which all boxes keep the rules; document 01's sheet. P9 out
+-- of the map of coins; a script for demand 3, and its two runs; a set that answers to what it has seen.
 pub mod EachNumber
 pub mod Replay
 pub mod SameLists
+pub mod Calls
 pub mod Life
-pub mod Accepted
+pub mod LifeSays
 pub mod Boxes
+pub mod Sent
+pub mod Heard
+pub mod AnyMake
+pub mod OtherMatrix
+pub mod Accepted
+pub mod HonestClass
 pub mod Sheets
 pub mod Map
 pub mod Script
 pub mod Hidden
+pub mod AnyStrategy

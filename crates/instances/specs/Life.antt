@@ -1,16 +1,13 @@
--- A life in which all of demand 2 happens: box 1 of document 01's hand sums (group 1, n 4, t 1, k 2, dealer 1, session 7, the
--- secret 5). Lists have the latest first.
+-- The life of the calls of Calls. Lists have the latest first.
 --
--- In order: the calls; what is computed of them; what it comes to; what the statements of Lives say of it.
+-- In order: what is computed of it; what it comes to. What the theorems of `Demands` say of it stands in `LifeSays`, `Sent`, `Heard`
+-- and `AnyMake`.
 -- Assumes nothing.
 use mathlib.Core.Path.{_≡_, refl, sym, ap, _∙_}
-use mathlib.Core.Bool.{Bool, true}
-use mathlib.Core.List.{List, [], _∷_, _++_, map}
+use mathlib.Core.Bool.{Bool, true, false}
+use mathlib.Core.List.{List, [], _∷_, map}
 use Prim.Native.Nat.{ℕ, _+_}
-use native.Mathlib.Omega.{arith}
-use lib.Dec.{eqb}
 use lib.ListN.{length, getD, take, drop}
-use Rattle.folds.specs.Below.{countBelow}
 use Rattle.rules.specs.declared.Answer.{Answer}
 use Rattle.rules.specs.declared.Completion.{Completion}
 use Rattle.rules.specs.declared.Completion.the-variants.{With}
@@ -21,75 +18,38 @@ use Rattle.rules.specs.declared.Kept.the-variants.{There}
 use Rattle.rules.specs.declared.Point.{Point}
 use Rattle.rules.specs.declared.Point.the-variants.{Held}
 use Rattle.rules.specs.declared.Record.{Record}
-use Rattle.rules.specs.Matrices.{entry}
-use Rattle.rules.specs.Messages.{Message, send, echo, ready, recovery, bytesOf, tagIn, matrixIn, polynomialsIn, toEach}
-use Rattle.rules.specs.Dealing.{committed, shareCheck}
-use Rattle.rules.specs.Record.{slotAt, placeAt, shareAt, isThere, matrixOf, sound, zeroRecord}
-use Rattle.rules.specs.Steps.{Said, points, sharePoints, pairFrom, echoFour, recoveredFrom, ownSlot}
+use Rattle.rules.specs.declared.Sent.{Sent}
+use Rattle.rules.specs.declared.Sent.the-variants.{Nothing, Send, Echo, Ready, Recovery}
+use Rattle.rules.specs.Messages.{tagIn}
+use Rattle.rules.specs.Record.{slotAt, placeAt, shareAt, heardFor, matrixOf, zeroRecord}
+use Rattle.rules.specs.Steps.{Said, points, ownSlot}
 use Rattle.rules.specs.Answers.{setUp}
 use Rattle.rules.specs.Computed.{computed}
-use Rattle.rules.specs.HandSums.{class, coins, four, pair, C, dealt, point, share}
-use Rattle.demands.specs.Terms.Histories.{Call, deals, gets, commanded, doing, after, answers, wrote, sendings}
-use Rattle.demands.specs.Terms.Dealing.{group, order}
-use Rattle.demands.specs.Terms.Lives.{checksNow, checked, said, shareSaid, eOf, rOf, keptFor, isEcho, howMany, readiesSent}
-use Rattle.demands.specs.Lives.{life-sound, e-counts, r-counts, places-say, shares-say, recovered-from, kept-when-ready, kept-then, kept-ever, kept-passes, completed-kept, report-opens, exact-echo}
+use Rattle.rules.specs.HandSums.{class, pair, point}
+use Rattle.demands.specs.Terms.Histories.{doing, after, answers, sendings}
+use Rattle.demands.specs.Terms.Lives.{checksNow, eOf, rOf, keptFor, isSend, isEcho, isRecovery, howMany, readiesSent}
 use Rattle.instances.specs.Replay.{Past, takes, life, came-to, life-lived, readiesAt, readies-sent}
+use Rattle.instances.specs.Calls.{D, early, first, twice, hearing, before, moment, finished, play}
 
-abbrev pub D : List (List Element)
-D = C 5 coins
+-- ---- what is computed of it
 
--- ---- the calls
+-- the numbers that the calls get, and what they send
+abbrev pub answered : List ℕ
+answered = 0 ∷ 7 ∷ 0 ∷ 10 ∷ 13 ∷ 0 ∷ 15 ∷ 0 ∷ 7 ∷ 0 ∷ 0 ∷ 0 ∷ 10 ∷ 0 ∷ 13 ∷ 7 ∷ 0 ∷ 0 ∷ 14 ∷ 15 ∷ []
 
-abbrev says : ℕ → Message → Call
-says m message = gets m (bytesOf class message) 2048
+abbrev pub kinds : List Sent
+kinds =
+    Nothing ∷ Nothing ∷ Nothing ∷ Nothing ∷ Nothing ∷ Recovery ∷ Nothing ∷ Nothing ∷ Nothing ∷ Ready
+    ∷ Nothing ∷ Nothing ∷ Nothing ∷ Nothing ∷ Nothing ∷ Nothing ∷ Echo ∷ Send ∷ Nothing ∷ Nothing ∷ []
 
--- box 1, the dealer: it deals
-abbrev start : List Call
-start = deals 5 coins 2048 ∷ []
+begins : (setUp class .answer .no ≡ 0) × (tagIn first ≡ 1)
+unfolding computed
+begins = (refl, refl)
 
--- gets its send, and once more; echoes of 2 and 4, and a wrong one of 3; the ready of 1
-abbrev first : List ℕ
-first = bytesOf class (send D (dealt 5 coins 1))
-
-abbrev pub before : List Call
-before =
-    says 1 (ready D (point 1))
-    ∷ says 4 (echo D (point 4))
-    ∷ says 3 (echo D (four 0 0 0 0))
-    ∷ says 2 (echo D (point 2))
-    ∷ gets 1 first 2048
-    ∷ gets 1 first 2048
-    ∷ start
-
--- the second ready, of a box that has echoed too: it sends ready
-abbrev pub moment : Call
-moment = says 2 (ready D (point 2))
-
--- the same ready once more; it completes by the ready of box 3, is told to recover (in too short a buffer the first time), and
--- recovers by the shares of 1, which comes twice, and 3
-abbrev later : List Call
-later =
-    says 3 (recovery (share 3))
-    ∷ says 1 (recovery (share 1))
-    ∷ says 1 (recovery (share 1))
-    ∷ commanded 2048
-    ∷ commanded 2047
-    ∷ says 3 (ready D (point 3))
-    ∷ says 2 (ready D (point 2))
-    ∷ []
-
-abbrev play : List Call
-play = later ++ moment ∷ before
-
--- ---- what is computed of them
-
-begins : (setUp class .answer .no ≡ 0) × (tagIn first ≡ 1) × (doing (after class start) (gets 1 first 2048) .outcome .answer .no ≡ 0)
-unfolding computed doing after
-begins = (refl, refl, refl)
-
--- what is looked at of it, computed at once
+-- what is looked at, computed at once
 record Looks : Type 0 where
   numbers : List ℕ
+  kinds : List Sent
   sent : List ℕ
   completed : Completion
   used : Bool
@@ -101,8 +61,13 @@ record Looks : Type 0 where
   kept : Kept
   share : Kept
   recovered : Kept
+  -- how often it has dealt, before its deal and in all; echoed; completed; sent its share, before it was told to and in all
+  sends-early : ℕ
+  sends : ℕ
   echoes : ℕ
   completions : ℕ
+  shares-early : ℕ
+  shares : ℕ
   -- how often ready was sent: in all, up to the second ready, and before it
   readies : ℕ
   readies-then : ℕ
@@ -110,15 +75,26 @@ record Looks : Type 0 where
   -- the lowest points held at the second ready, and the pair kept
   lowest-then : List (Said Four)
   pair-then : Kept
+  -- what it had completed with when it was told to recover
+  completed-then : Completion
+  share-then : Kept
+  -- whether box 2, and 3, were heard before their echoes
+  heard-2 : Bool
+  heard-3 : Bool
 
 -- the k lowest points that are held for the matrix
 abbrev pub lowest : Record → List (Said Four)
 lowest x = take 2 (points (slotAt x (ownSlot x D) .places))
 
+-- the record that the call with so many since came to
+abbrev came : Past → ℕ → Record
+came b since = getD (b .came) since zeroRecord
+
 abbrev look : Past → Looks
 look b =
     record {
       numbers = map (λ (a : Answer). a .no) (b .told);
+      kinds = map (λ (a : Answer). a .sent) (b .told);
       sent = map length (b .sent);
       completed = b .left .progress .completion;
       used = slotAt (b .left) 0 .used;
@@ -130,18 +106,27 @@ look b =
       kept = keptFor (b .left) D;
       share = shareAt (b .left .shares) 2;
       recovered = b .left .recovered .kept;
+      sends-early = howMany (λ (a : Answer). isSend (a .sent)) (drop 18 (b .told));
+      sends = howMany (λ (a : Answer). isSend (a .sent)) (b .told);
       echoes = howMany (λ (a : Answer). isEcho (a .sent)) (b .told);
       completions = howMany (λ (a : Answer). a .completed) (b .told);
+      shares-early = howMany (λ (a : Answer). isRecovery (a .sent)) (drop 6 (b .told));
+      shares = howMany (λ (a : Answer). isRecovery (a .sent)) (b .told);
       readies = readiesAt D (b .made) (b .came) (b .told);
-      readies-then = readiesAt D (drop 7 (b .made)) (drop 7 (b .came)) (drop 7 (b .told));
-      readies-before = readiesAt D (drop 8 (b .made)) (drop 8 (b .came)) (drop 8 (b .told));
-      lowest-then = lowest (getD (b .came) 6 zeroRecord);
-      pair-then = keptFor (getD (b .came) 6 zeroRecord) D;
+      readies-then = readiesAt D (drop 9 (b .made)) (drop 9 (b .came)) (drop 9 (b .told));
+      readies-before = readiesAt D (drop 10 (b .made)) (drop 10 (b .came)) (drop 10 (b .told));
+      lowest-then = lowest (came b 8);
+      pair-then = keptFor (came b 8) D;
+      completed-then = came b 5 .progress .completion;
+      share-then = slotAt (came b 5) 0 .pair .kept;
+      heard-2 = heardFor (came b 13) 2 1;
+      heard-3 = heardFor (came b 12) 2 2;
     }
 
 looks : look (life class play)
     ≡ record {
-      numbers = 0 ∷ 7 ∷ 0 ∷ 0 ∷ 15 ∷ 0 ∷ 7 ∷ 0 ∷ 0 ∷ 0 ∷ 10 ∷ 0 ∷ 7 ∷ 0 ∷ 0 ∷ [];
+      numbers = answered;
+      kinds = kinds;
       sent = 124 ∷ 92 ∷ 92 ∷ 40 ∷ [];
       completed = With 0;
       used = true;
@@ -153,13 +138,21 @@ looks : look (life class play)
       kept = There (pair 7 8);
       share = There (pair 0 0);
       recovered = There (pair 5 1);
+      sends-early = 0;
+      sends = 1;
       echoes = 1;
       completions = 1;
+      shares-early = 0;
+      shares = 1;
       readies = 1;
       readies-then = 1;
       readies-before = 0;
       lowest-then = record { box = 1; says = point 1 } ∷ record { box = 2; says = point 2 } ∷ [];
       pair-then = There (pair 7 8);
+      completed-then = With 0;
+      share-then = There (pair 7 8);
+      heard-2 = false;
+      heard-3 = false;
     }
 unfolding computed doing life takes eOf rOf keptFor howMany checksNow readiesAt
 looks = refl
@@ -169,16 +162,15 @@ looks = refl
 abbrev pub then : Record
 then = after class (moment ∷ before)
 
-abbrev end : Record
+abbrev pub end : Record
 end = after class play
 
 pub record Life : Type 0 where
   pub taken : setUp class .answer .no ≡ 0
   -- the send is checked
   pub tag : tagIn first ≡ 1
-  pub accepted : doing (after class start) (gets 1 first 2048) .outcome .answer .no ≡ 0
-  pub numbers : map (λ (a : Answer). a .no) (answers class play)
-      ≡ 0 ∷ 7 ∷ 0 ∷ 0 ∷ 15 ∷ 0 ∷ 7 ∷ 0 ∷ 0 ∷ 0 ∷ 10 ∷ 0 ∷ 7 ∷ 0 ∷ 0 ∷ []
+  pub numbers : map (λ (a : Answer). a .no) (answers class play) ≡ answered
+  pub kinds : map (λ (a : Answer). a .sent) (answers class play) ≡ kinds
   -- four sends, four echoes, four readies, four recovery shares
   pub sent : map length (sendings class play) ≡ 124 ∷ 92 ∷ 92 ∷ 40 ∷ []
   pub completed : end .progress .completion ≡ With 0
@@ -192,14 +184,24 @@ pub record Life : Type 0 where
   -- the share of box 3 is truly 0, 0
   pub shared : shareAt (end .shares) 2 ≡ There (pair 0 0)
   pub recovered : end .recovered .kept ≡ There (pair 5 1)
+  pub sends-early : howMany (λ (a : Answer). isSend (a .sent)) (answers class early) ≡ 0
+  pub sends : howMany (λ (a : Answer). isSend (a .sent)) (answers class play) ≡ 1
   pub echoes : howMany (λ (a : Answer). isEcho (a .sent)) (answers class play) ≡ 1
   pub readies : readiesSent class play D ≡ 1
   pub completions : howMany (λ (a : Answer). a .completed) (answers class play) ≡ 1
+  pub shares-early : howMany (λ (a : Answer). isRecovery (a .sent)) (answers class finished) ≡ 0
+  pub shares : howMany (λ (a : Answer). isRecovery (a .sent)) (answers class play) ≡ 1
   -- the pair was kept when ready was sent, out of the points of 1 and 2, and stays
   pub sends-ready : readiesSent class (moment ∷ before) D ≡ readiesSent class before D + 1
   pub lowest : lowest then ≡ record { box = 1; says = point 1 } ∷ record { box = 2; says = point 2 } ∷ []
   pub kept : keptFor then D ≡ There (pair 7 8)
   pub stays : keptFor end D ≡ There (pair 7 8)
+  -- it has completed when it is told to recover
+  pub completed-then : after class finished .progress .completion ≡ With 0
+  pub share-then : slotAt (after class finished) 0 .pair .kept ≡ There (pair 7 8)
+  -- nobody is heard before its echo
+  pub heard-2 : heardFor (after class twice) 2 1 ≡ false
+  pub heard-3 : heardFor (after class hearing) 2 2 ≡ false
 
 pub one-life : Life
 unfolding came-to answers
@@ -208,8 +210,8 @@ one-life =
     record {
       taken = begins .0;
       tag = begins .1;
-      accepted = begins .2;
       numbers = ap (λ l. l .numbers) all;
+      kinds = ap (λ l. l .kinds) all;
       sent = ap (λ l. l .sent) all;
       completed = ap (λ l. l .completed) all;
       used = ap (λ l. l .used) all;
@@ -220,9 +222,13 @@ one-life =
       pair-kept = ap (λ l. l .pair-kept) all;
       shared = ap (λ l. l .share) all;
       recovered = ap (λ l. l .recovered) all;
+      sends-early = ap (λ l. l .sends-early) all;
+      sends = ap (λ l. l .sends) all;
       echoes = ap (λ l. l .echoes) all;
       readies = sym (readies-sent class D play) ∙ ap (λ l. l .readies) all;
       completions = ap (λ l. l .completions) all;
+      shares-early = ap (λ l. l .shares-early) all;
+      shares = ap (λ l. l .shares) all;
       sends-ready =
           sym (readies-sent class D (moment ∷ before))
           ∙ ap (λ l. l .readies-then) all
@@ -230,42 +236,8 @@ one-life =
       lowest = ap (λ l. l .lowest-then) all;
       kept = ap (λ l. l .pair-then) all;
       stays = ap (λ l. l .kept) all;
-    }
-
--- ---- what the statements of Lives say of it
-
-pub record Says : Type 0 where
-  pub stays-sound : sound end ≡ true
-  pub e : countBelow 10 (λ m. checked class play 2 (m + 1) D) ≡ 2
-  pub r : countBelow 10 (λ m. checked class play 3 (m + 1) D) ≡ 3
-  pub echoes : wrote (doing (after class start) (gets 1 first 2048))
-      ≡ toEach class (λ j. echo (matrixIn class first) (echoFour (order class) 2 (polynomialsIn class first) j))
-  pub there : isThere (keptFor end D) ≡ eqb (readiesSent class play D) 1
-  pub kept : There (pair 7 8) ≡ There (pairFrom (order class) (lowest then))
-  pub stays : keptFor end D ≡ There (pair 7 8)
-  pub completed : isThere (slotAt end 0 .pair .kept) ≡ true
-  pub passes : shareCheck (group class) 2 (matrixOf (slotAt end 0)) 1 (pair 7 8) ≡ true
-  pub opens : committed (group class) 5 1 ≡ entry (matrixOf (slotAt end 0)) 0 0
-  pub recovered : pair 5 1 ≡ recoveredFrom (order class) (sharePoints (end .shares))
-  -- of box 3, which said both
-  pub point-said : said class play 3 (matrixOf (slotAt end 0)) ≡ Held (point 3)
-  pub share-said : shareSaid class play 3 ≡ There (pair 0 0)
-
-pub life-says : Says
-life-says =
-    let l = one-life in
-    record {
-      stays-sound = life-sound class (l .taken) play .0;
-      e = sym (e-counts class (l .taken) play D) ∙ l .e;
-      r = sym (r-counts class (l .taken) play D) ∙ l .r;
-      echoes = exact-echo class (l .taken) start 1 2048 first (l .tag) (l .accepted) .1;
-      there = kept-when-ready class (l .taken) play D;
-      kept = sym (l .kept) ∙ kept-then class (l .taken) before moment D (l .sends-ready);
-      stays = kept-ever class (l .taken) (moment ∷ before) D (pair 7 8) later (l .kept);
-      completed = completed-kept class (l .taken) play 0 (l .completed) .1;
-      passes = kept-passes class (l .taken) play 0 (pair 7 8) (omega arith) (l .pair-kept);
-      opens = report-opens class (l .taken) play 0 (pair 5 1) (l .completed) (l .recovered);
-      recovered = recovered-from class (l .taken) play (pair 5 1) (l .recovered);
-      point-said = sym (places-say class (l .taken) play 0 2 (omega arith) (omega arith) (l .used)) ∙ l .held;
-      share-said = sym (shares-say class (l .taken) play 2 (omega arith)) ∙ l .shared;
+      completed-then = ap (λ l. l .completed-then) all;
+      share-then = ap (λ l. l .share-then) all;
+      heard-2 = ap (λ l. l .heard-2) all;
+      heard-3 = ap (λ l. l .heard-3) all;
     }

@@ -1,8 +1,9 @@
 -- P9 out of the map of coins, for the set of box 1 alone in a class that box 2 deals.
 --
--- In order: to a box of the set the matching coins send the same bytes, in any class; the class, its set and their numbers; P9.
+-- In order: to a box of the set the matching coins send the same bytes, in any class; the class, its set and their numbers; P9;
+-- what the theorems of `Demands` say of its coins.
 -- Assumes nothing.
-use mathlib.Core.Path.{_≡_, refl, sym, ap, ap₂, _∙_}
+use mathlib.Core.Path.{_≡_, refl, sym, ap, ap₂, subst, _∙_}
 use mathlib.Core.Bool.{Bool, true}
 use mathlib.Core.List.{List, [], _∷_, _++_}
 use Prim.Native.Nat.{ℕ, _+_, _*_, _%_, _≤_, _<_}
@@ -21,6 +22,7 @@ use Rattle.demands.specs.Terms.Dealing.{order, Sound, dealtMatrix, dealtTo}
 use Rattle.demands.specs.Sharing.{size}
 use Rattle.demands.specs.Terms.Secrets.{vanishing, difference, difference′, moved, matching, Few}
 use Rattle.demands.specs.Matching.{z-on-set, matching-matrix, matching-sends}
+use Rattle.demands.specs.Demands.{matching-coins-keep, matching-coins-go-back}
 
 -- ---- what a box of the set is sent
 
@@ -116,3 +118,16 @@ P9 = (
   ap (λ t. bytesOf numbers (send (dealtMatrix numbers 6 t) (dealtTo numbers 6 t 1))) (sym matches)
       ∙ send-same numbers numbers-sound set few 5 6 low-5 low-6 coins coins-keep 1 (omega arith, omega arith) refl,
 )
+
+-- ---- what the theorems say of its coins
+
+-- a deal of 6 takes them, and they match back
+pub taken : coinsKeep numbers 6 coins* ≡ true
+taken =
+    subst (λ (cs : List ℕ). coinsKeep numbers 6 cs ≡ true) matches
+    (matching-coins-keep numbers numbers-sound set few 5 6 low-5 low-6 coins coins-keep)
+
+pub back : matching numbers set 6 5 coins* ≡ coins
+back =
+    ap (matching numbers set 6 5) (sym matches)
+    ∙ matching-coins-go-back numbers numbers-sound set few 5 6 low-5 low-6 coins coins-keep

@@ -3,7 +3,7 @@
 --
 -- In order: what is kept of one box, and of a class; that it is what Histories says, for any calls and any events.
 -- Assumes nothing.
-use mathlib.Core.Path.{_≡_, refl, ap, _∙_}
+use mathlib.Core.Path.{_≡_, refl, sym, ap, _∙_}
 use mathlib.Core.Bool.{Bool, true, false, not}
 use mathlib.Core.List.{List, [], _∷_, _++_}
 use Prim.Native.Nat.{ℕ, _+_, _-_, _≤_}
@@ -221,3 +221,15 @@ module _ (c : Class) where
   unfolding replay next seen
   replay-seen [] = refl
   replay-seen (e ∷ es) = seen-next es (replay c es) (replay-boxes es) (replay-seen es) e
+
+  -- so is whatever is looked at of what the set has seen and of three boxes
+  pub replayed : {A : Type 0} (look : List (List ℕ) → Past → Past → Past → A) (es : List Event) (i j k : ℕ)
+      → isBox (c .numbers) i ≡ true → isBox (c .numbers) j ≡ true → isBox (c .numbers) k ≡ true
+      → look (seen c es) (told-of es i) (told-of es j) (told-of es k)
+      ≡ look (replay c es .saw) (boxIn (replay c es) i) (boxIn (replay c es) j) (boxIn (replay c es) k)
+  replayed look es i j k bi bj bk =
+      let run = replay c es in
+      ap (λ saw. look saw (told-of es i) (told-of es j) (told-of es k)) (sym (replay-seen es))
+      ∙ ap (λ b. look (run .saw) b (told-of es j) (told-of es k)) (sym (replay-boxes es i bi))
+      ∙ ap (λ b. look (run .saw) (boxIn run i) b (told-of es k)) (sym (replay-boxes es j bj))
+      ∙ ap (λ b. look (run .saw) (boxIn run i) (boxIn run j) b) (sym (replay-boxes es k bk))

@@ -83,7 +83,7 @@ abbrev pub lie : Four → Four
 lie f = four ((α f + 5) % 11) ((α′ f + 9) % 11) ((β f + 5) % 11) ((β′ f + 9) % 11)
 
 -- the matrix of a deal that is another in the last coefficient of f alone, 9 where it was 8
-abbrev rival-coins : List ℕ
+abbrev pub rival-coins : List ℕ
 rival-coins = 3 ∷ 7 ∷ 2 ∷ 4 ∷ 9 ∷ 6 ∷ 1 ∷ 9 ∷ 1 ∷ 6 ∷ 10 ∷ 7 ∷ 9 ∷ 3 ∷ 5 ∷ 2 ∷ 4 ∷ []
 
 abbrev pub rival : List (List Element)
@@ -101,10 +101,10 @@ forged = record { dealt-2 = refl; lie-2 = refl; dealt-4 = refl; lie-4 = refl }
 
 -- ---- the script
 
-abbrev handed : ℕ → ℕ → ℕ → Event
+abbrev pub handed : ℕ → ℕ → ℕ → Event
 handed from to place = hand-on from to place 2048
 
-abbrev forges : ℕ → ℕ → Message → Event
+abbrev pub forges : ℕ → ℕ → Message → Event
 forges from to message = forge from to (bytesOf numbers message) 2048
 
 -- box 1 deals: with too few coins, in too short a buffer, at last, and once more; the send goes to all, and to box 3 twice; echoes

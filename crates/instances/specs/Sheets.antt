@@ -1,6 +1,6 @@
--- Document 01's sheet: it opens, and what the statements of SheetOpens say of it.
+-- Document 01's sheet: it opens, and what the theorems of `Demands` say of it.
 --
--- In order: the sheet; what is computed of it; what the statements say.
+-- In order: the sheet; what is computed of it; what the theorems say.
 -- Assumes nothing.
 use mathlib.Core.Path.{_≡_, refl, sym, ap, ap₂, _∙_}
 use mathlib.Core.Bool.{true}
@@ -22,8 +22,8 @@ use Rattle.rules.specs.Text.{text}
 use Rattle.rules.specs.Computed.{computed}
 use Rattle.rules.specs.HandSums.{pair}
 use Rattle.demands.specs.Terms.Sheet.{Opens, numbers, matrix, says, verified, secret}
-use Rattle.demands.specs.SheetOpens.{sheet-prints, sheet-opens, sheet-verified, sheet-silent}
-use Rattle.instances.specs.Life.{D}
+use Rattle.demands.specs.Demands.{sheet-prints-its-secret, sheet-secret-opens, sheet-verifies-what-is-said, silent-box-is-not-verified}
+use Rattle.instances.specs.Calls.{D}
 
 -- ---- the sheet
 
@@ -73,7 +73,7 @@ reads =
       first-entry = refl;
     }
 
--- ---- what the statements say
+-- ---- what the theorems say
 
 pub record Says : Type 0 where
   pub prints : printed sheet ≡ text "1 verified\n2 silent\n3 verified\n4 refused 10\n" ++ text "secret 5 1 from 1 3\n"
@@ -86,11 +86,14 @@ pub record Says : Type 0 where
 pub sheet-says : Says
 sheet-says =
     let r = reads in
-    let box-3 = sheet-verified sheet 2 (pair 0 0) (omega arith) (r .verified-3) in
+    let box-3 = sheet-verifies-what-is-said sheet 2 (pair 0 0) (omega arith) (r .verified-3) in
     record {
-      prints = sheet-prints sheet opens ∙ ap₂ _++_ (r .boxes) (r .last);
-      opens = ap (λ (p : Pair). committed G (p .first .0) (p .second .0)) (sym (r .gives)) ∙ sheet-opens sheet opens ∙ r .first-entry;
+      prints = sheet-prints-its-secret sheet opens ∙ ap₂ _++_ (r .boxes) (r .last);
+      opens =
+          ap (λ (p : Pair). committed G (p .first .0) (p .second .0)) (sym (r .gives))
+          ∙ sheet-secret-opens sheet opens
+          ∙ r .first-entry;
       says-3 = box-3 .0;
       passes-3 = box-3 .1;
-      verified-2 = sheet-silent sheet 1 (omega arith) (r .says-2);
+      verified-2 = silent-box-is-not-verified sheet 1 (omega arith) (r .says-2);
     }
