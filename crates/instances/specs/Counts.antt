@@ -15,16 +15,18 @@ use Rattle.rules.specs.declared.Answer.{Answer}
 use Rattle.rules.specs.declared.Completion.{Completion}
 use Rattle.rules.specs.declared.Completion.the-variants.{With}
 use Rattle.rules.specs.declared.Element.{Element}
+use Rattle.rules.specs.declared.Four.{Four}
+use Rattle.rules.specs.declared.Marks.{Marks}
 use Rattle.rules.specs.declared.Record.{Record}
 use Rattle.rules.specs.declared.SetUp.{SetUp}
-use Rattle.rules.specs.declared.Side.the-variants.{ByEcho}
+use Rattle.rules.specs.declared.Side.the-variants.{ByEcho, ByReady}
 use Rattle.rules.specs.declared.Slot.{Slot}
 use Rattle.rules.specs.declared.Sent.the-variants.{Ready, Recovery}
 use Rattle.rules.specs.Numbers.{element}
 use Rattle.rules.specs.Matrices.{matrix, entry}
 use Rattle.rules.specs.Messages.{echo, ready, recovery}
 use Rattle.rules.specs.Record.{slotAt, matrixOf, countE, countR, zeroSlot, newRecord}
-use Rattle.rules.specs.Steps.{withSlots, heard, opened, taken}
+use Rattle.rules.specs.Steps.{withSlots, withHeard, heard, opened, taken}
 use Rattle.rules.specs.Computed.{computed}
 use Rattle.rules.specs.HandSums.{class, sized, four, pair}
 use Rattle.demands.specs.Terms.Histories.{Call, commanded, doing}
@@ -103,14 +105,29 @@ in-the-gap =
     ∷ from class 3 (ready (other 4 0) (four 4 0 4 0))
     ∷ []
 
--- "at most 20 such C's can occur and there is room for all": ten boxes, each with another matrix in its echo and in its ready
+-- "at most 20 such C's can occur and there is room for all": ten boxes, each with another matrix in its echo and in its ready, all
+-- but the ready of box 10, for which place 19 is left
 abbrev large : SetUp
 large = sized 10 1 2
 
-abbrev twenty : List Call
-twenty =
-    gather 10 (λ m. from large (m + 1) (echo (other m 0) (four m 0 m 0)) ∷ [])
-    ++ gather 10 (λ m. from large (m + 1) (ready (other m 1) (four ((m + m + 1) % 11) 0 ((m + m + 1) % 11) 0)) ∷ [])
+abbrev ready-point : ℕ → Four
+ready-point m = four ((m + m + 1) % 11) 0 ((m + m + 1) % 11) 0
+
+abbrev ears : List Bool → Marks
+ears l = record { at = l }
+
+abbrev nineteen : Record
+nineteen =
+    withHeard
+    (withSlots (newRecord large)
+    (gather 10 (λ m. slot-of m m ∷ [])
+    ++ gather 9 (λ m. taken ByReady (opened (other m 1) zeroSlot) m (ready-point m) ∷ [])
+    ++ zeroSlot
+    ∷ []))
+    (ears (replicate 10 false) ∷ ears (replicate 10 true) ∷ ears (replicate 9 true ++ false ∷ []) ∷ ears (replicate 10 false) ∷ [])
+
+abbrev twentieth : List Call
+twentieth = from large 10 (ready (other 9 1) (ready-point 9)) ∷ []
 
 -- the first and the last entry of the matrix at a place
 abbrev ends : Record → ℕ → List ℕ
@@ -157,9 +174,9 @@ pub record Counts : Type 0 where
         used = true ∷ true ∷ true ∷ true ∷ false ∷ [];
         matrices = (2 ∷ 1 ∷ []) ∷ (8 ∷ 1 ∷ []) ∷ (4 ∷ 1 ∷ []) ∷ (16 ∷ 1 ∷ []) ∷ (0 ∷ 0 ∷ []) ∷ [];
       }
-  pub room-for-all : stand 20 (plays (newRecord large) twenty)
+  pub room-for-all : stand 20 (plays nineteen twentieth)
       ≡ record {
-        numbers = replicate 20 0;
+        numbers = 0 ∷ [];
         used = replicate 20 true;
         matrices = (1 ∷ 1 ∷ []) ∷ (2 ∷ 1 ∷ []) ∷ (4 ∷ 1 ∷ []) ∷ (8 ∷ 1 ∷ []) ∷ (16 ∷ 1 ∷ []) ∷ (9 ∷ 1 ∷ []) ∷ (18 ∷ 1 ∷ []) ∷ (13 ∷ 1 ∷ []) ∷ (3 ∷ 1 ∷ []) ∷ (6 ∷ 1 ∷ [])
             ∷ (1 ∷ 2 ∷ []) ∷ (2 ∷ 2 ∷ []) ∷ (4 ∷ 2 ∷ []) ∷ (8 ∷ 2 ∷ []) ∷ (16 ∷ 2 ∷ []) ∷ (9 ∷ 2 ∷ []) ∷ (18 ∷ 2 ∷ []) ∷ (13 ∷ 2 ∷ []) ∷ (3 ∷ 2 ∷ []) ∷ (6 ∷ 2 ∷ []) ∷ [];
