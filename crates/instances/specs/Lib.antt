@@ -1,13 +1,20 @@
--- Computed plays: one in which every answer number is met; and an instance for each theorem of `Demands`: a life or a history that
--- meets what it supposes, and in which something happens, so that none is met by a useless box alone.
+-- Computed plays: those in which a sentence of document 01 with a number or an order in it is met, so that its breach is refused; and
+-- an instance for each theorem of `Demands`: a life or a history that meets what it supposes, and in which something happens, so that none
+-- is met by a useless box alone.
 --
--- In order: each answer number; histories replayed; equal lists. A life in which all of demand 2 happens: its calls, what it comes to,
--- what the theorems say of it, points and shares of different boxes, its bytes, who is heard, a box of any make. A life with readies
--- for another matrix; a class in which what is sent is accepted; a class in which all boxes keep the rules; document 01's sheet. P9 out
--- of the map of coins; a script for demand 3, and its two runs; a set that answers to what it has seen.
+-- In order: each answer number; equal lists; plays, one of them whole, where counts tell, each row of the table on its boundary, sound
+-- records. Histories replayed. A life in which all of demand 2 happens: its calls, what it comes to, what the theorems say of it, points
+-- and shares of different boxes, its bytes, who is heard, a box of any make. A life with readies for another matrix; a class in which
+-- what is sent is accepted; a class in which all boxes keep the rules; document 01's sheet. P9 out of the map of coins; a script for
+-- demand 3, and its two runs; a set that answers to what it has seen.
 pub mod EachNumber
-pub mod Replay
 pub mod SameLists
+pub mod Plays
+pub mod WholePlay
+pub mod Counts
+pub mod Boundaries
+pub mod SoundRecords
+pub mod Replay
 pub mod Calls
 pub mod Life
 pub mod LifeSays
