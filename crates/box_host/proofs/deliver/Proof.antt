@@ -58,7 +58,7 @@ use Rattle.box_lent.proofs.deliver_in as deliver-in
 use Rattle.box_lent.proofs.deliver_in.Symbol as deliver-in-def
 use Rattle.box_lent.proofs.deliver_in.Symbol.{name as #deliver-in}
 use Rattle.box_lent.proofs.deliver_in.Met as deliver-in-thm
-use Rattle.box_lent.proofs.Values.{recordVal, answerVal, outcomeVal, record-tells, answer-tells, answer-is, is-outcome, recordTy, answerTy, outcomeTy, record-makes, outcome-makes, record-typed, answer-typed, outcome-typed}
+use Rattle.box_lent.proofs.Values.{recordVal, outcomeVal, record-tells, answer-tells, answer-is, is-outcome, recordTy, answerTy, outcomeTy, record-makes, outcome-makes, record-typed, answer-typed, outcome-typed}
 use Rattle.box_host.proofs.deliver.Key.{name as #deliver}
 use Rattle.box_host.proofs.deliver as deliver
 use Rattle.box_host.proofs.deliver.Statement as stated
