@@ -1,32 +1,23 @@
 -- A box of any make: its deliveries are taken by a station that keeps the promise of a delivery (`Keeps` of `rules`). One that
 -- makes up e or r is none: each is the number of different senders whose message the station itself accepted.
 --
--- In order: its life; calls as code is given them; its life is that of the rules; the statement.
+-- In order: its life is that of the rules; the statement.
 -- Assumes nothing.
 use mathlib.Core.Path.{_≡_, refl, sym, ap, ap₂, _∙_}
-use mathlib.Core.Bool.{true}
 use mathlib.Core.List.{List, [], _∷_}
 use Prim.Native.Nat.{ℕ, _+_}
-use native.Mathlib.Omega.{arith}
-use lib.Dec.{ltb}
-use lib.ListN.{length, length-replicate, getD-replicate, replicate}
+use lib.ListN.{replicate}
 use Rattle.folds.specs.Tests.{_or_}
-use Rattle.folds.specs.Below.{allBelow-all, countBelow, countBelow-same}
+use Rattle.folds.specs.Below.{countBelow, countBelow-same}
 use Rattle.rules.specs.declared.Element.{Element}
 use Rattle.rules.specs.declared.Record.{Record}
 use Rattle.rules.specs.declared.SetUp.{SetUp}
 use Rattle.rules.specs.Answers.{Done, setUp}
-use Rattle.rules.specs.UselessBoxes.{Station, areBytes, Keeps}
+use Rattle.rules.specs.UselessBoxes.{Station, zeros-are-bytes, Keeps}
 use Rattle.demands.specs.Terms.Histories.{Call, deals, gets, commanded, doing, after, keeps}
 use Rattle.demands.specs.Terms.Lives.{checksBy, checksNow, checked, eOf, rOf}
 use Rattle.demands.specs.Lives.{life-sound, e-counts, r-counts}
 use Rattle.demands.specs.Terms.Stations.{doingBy, afterBy, checkedBy, Sayable, AllSayable}
-
-zeros-are-bytes : (n : ℕ) → areBytes (replicate n 0) ≡ true
-unfolding areBytes
-zeros-are-bytes n =
-    allBelow-all _ (length {A = ℕ} (replicate n 0)) (λ i l.
-    let long = length-replicate {A = ℕ} n 0 in ap (λ v. ltb v 256) (getD-replicate n i 0 0 (omega arith)))
 
 -- ---- its life is that of the rules
 

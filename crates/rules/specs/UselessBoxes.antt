@@ -13,21 +13,22 @@ use mathlib.Core.Logic.{_≢_}
 use Prim.Native.Nat.{ℕ, _<_}
 use native.Mathlib.Omega.{arith}
 use lib.Dec.{eqb, ltb}
-use lib.ListN.{length, replicate, getD}
+use lib.ListN.{length, length-replicate, replicate, getD, getD-replicate}
 use borrow.Author.Tests.{eqb-false}
 use Rattle.folds.specs.Tests.{true≢false}
-use Rattle.folds.specs.Below.{allBelow}
+use Rattle.folds.specs.Below.{allBelow, allBelow-all}
 use Rattle.rules.specs.declared.Answer.{Answer}
 use Rattle.rules.specs.declared.Marks.{Marks}
 use Rattle.rules.specs.declared.Record.{Record}
 use Rattle.rules.specs.declared.SetUp.{SetUp}
 use Rattle.rules.specs.declared.Slot.{Slot}
+use Rattle.rules.specs.Numbers.{groupKeeps, numbersKeep}
 use Rattle.rules.specs.Messages.{Message, send, echo, bytesOf}
 use Rattle.rules.specs.Record.{noMarks, marked, zeroSlot, countE, newRecord, sound}
 use Rattle.rules.specs.Answers.{Done, Delivers, deliver}
 use Rattle.rules.specs.Computed.{computed}
 use Rattle.rules.specs.Laws.Shape.{Shaped}
-use Rattle.rules.specs.Laws.New.{set-up-sound}
+use Rattle.rules.specs.Laws.New.{new-sound, new-shaped}
 use Rattle.rules.specs.Laws.Kept.{deliver-kept}
 use Rattle.rules.specs.HandSums.{class, coins, C, dealt, point}
 
@@ -37,6 +38,12 @@ Station = Record → ℕ → List ℕ → List ℕ → Done
 -- every number is one of a byte
 unfoldable pub areBytes : List ℕ → Bool
 areBytes l = allBelow (length l) (λ i. ltb (getD l i 0) 256)
+
+pub zeros-are-bytes : (n : ℕ) → areBytes (replicate n 0) ≡ true
+unfolding areBytes
+zeros-are-bytes n =
+    allBelow-all _ (length {A = ℕ} (replicate n 0)) (λ i l.
+    let long = length-replicate {A = ℕ} n 0 in ap (λ v. ltb v 256) (getD-replicate n i 0 0 (omega arith)))
 
 -- a delivery as code is given one: the numbers of a sound record are in the ranges of their types
 pub record Given (x : Record) (sender : ℕ) (bytes buffer : List ℕ) : Type 0 where
@@ -113,13 +120,16 @@ one-value a b other p q = eqb-false a b other (sym p ∙ q)
 
 -- as code is given them
 bytes-of : (areBytes (bytesOf class its-send) ≡ true) × (areBytes (bytesOf class first-echo) ≡ true)
-    × (areBytes (bytesOf class second-echo) ≡ true) × (areBytes lent ≡ true)
+    × (areBytes (bytesOf class second-echo) ≡ true)
 unfolding computed areBytes
-bytes-of = (refl, refl, refl, refl)
+bytes-of = (refl, refl, refl)
+
+class-keeps : (groupKeeps class ≡ true) × (numbersKeep class ≡ true)
+unfolding computed
+class-keeps = (refl, refl)
 
 new-kept : (sound new ≡ true) × Shaped new
-unfolding computed
-new-kept = set-up-sound class refl
+new-kept = (new-sound class (class-keeps .0) (class-keeps .1), new-shaped class)
 
 once-kept : (sound once ≡ true) × Shaped once
 once-kept = deliver-kept new 2 (bytesOf class first-echo) lent (new-kept .0) (new-kept .1)
@@ -130,7 +140,7 @@ GivenTo x m message = Given x m (bytesOf class message) lent
 given-to : (x : Record) (m : ℕ) (message : Message) → (sound x ≡ true) × Shaped x → m < 4294967296 → areBytes (bytesOf class message) ≡ true
     → GivenTo x m message
 given-to x m message kept low bytes =
-    record { is-sound = kept .0; shape = kept .1; sender-low = low; bytes-low = bytes; buffer-low = bytes-of .3 }
+    record { is-sound = kept .0; shape = kept .1; sender-low = low; bytes-low = bytes; buffer-low = zeros-are-bytes 2048 }
 
 send-given : GivenTo new 1 its-send
 send-given = given-to new 1 its-send new-kept (omega arith) (bytes-of .0)
