@@ -1,6 +1,6 @@
 -- Document 01, "Steps of a box": where counts make a box send or complete, and which place a matrix takes.
 --
--- In order: a class of ten boxes with t = 2 (k 3, so k + t is 5, and E is 13/2 rounded up, 7) and two matrices; plays in which readies
+-- In order: a class of ten boxes with t = 2 (k 3 or 4, so k + t is 5 or 6, and E is 13/2 rounded up, 7) and two matrices; plays in which readies
 -- come first, and echoes; a record with a gap between places in use; twenty matrices; the statement.
 -- Assumes nothing.
 use mathlib.Core.Path.{_≡_, refl}
@@ -35,21 +35,21 @@ use Rattle.instances.specs.Plays.{Played, plays, quiet, sends, completes
 -- ---- ten boxes, two matrices
 
 -- box 10; dealt by box 3 in session 65,535
-abbrev ten : SetUp
-ten = record { group = 1; n = 10; t = 2; k = 3; i = 10; d = 3; session = 65535 }
+abbrev ten : ℕ → SetUp
+ten k = record { group = 1; n = 10; t = 2; k = k; i = 10; d = 3; session = 65535 }
 
 -- f = c, f' = 0: every point of it is c, 0, c, 0, and every share c, 0
-abbrev constant : ℕ → List (List Element)
-constant c = matrix 3 (element 0) (λ j l. element (pick (eqb j 0 and eqb l 0) (2 ^ c) 1))
+abbrev constant : ℕ → ℕ → List (List Element)
+constant k c = matrix k (element 0) (λ j l. element (pick (eqb j 0 and eqb l 0) (2 ^ c) 1))
 
-abbrev echoes : ℕ → ℕ → Call
-echoes c m = from ten m (echo (constant c) (four c 0 c 0))
+abbrev echoes : ℕ → ℕ → ℕ → Call
+echoes k c m = from (ten k) m (echo (constant k c) (four c 0 c 0))
 
-abbrev readies : ℕ → ℕ → Call
-readies c m = from ten m (ready (constant c) (four c 0 c 0))
+abbrev readies : ℕ → ℕ → ℕ → Call
+readies k c m = from (ten k) m (ready (constant k c) (four c 0 c 0))
 
 abbrev shares : ℕ → Call
-shares m = from ten m (recovery (pair 1 0))
+shares m = from (ten 3) m (recovery (pair 1 0))
 
 -- ---- the plays
 
@@ -57,18 +57,18 @@ shares m = from ten m (recovery (pair 1 0))
 -- completion counts; later readies for another C are counted and change neither C nor share."; the third share recovers
 abbrev readies-first : List Call
 readies-first =
-    map (echoes 1) (1 ∷ 2 ∷ 3 ∷ [])
-    ++ map (readies 1) (1 ∷ 2 ∷ 3 ∷ [])
-    ++ map (echoes 1) (4 ∷ 5 ∷ 6 ∷ 7 ∷ [])
-    ++ map (readies 1) (4 ∷ 5 ∷ [])
-    ++ map (readies 0) (6 ∷ 7 ∷ 8 ∷ 9 ∷ 10 ∷ [])
+    map (echoes 3 1) (1 ∷ 2 ∷ 3 ∷ [])
+    ++ map (readies 3 1) (1 ∷ 2 ∷ 3 ∷ [])
+    ++ map (echoes 3 1) (4 ∷ 5 ∷ 6 ∷ 7 ∷ [])
+    ++ map (readies 3 1) (4 ∷ 5 ∷ [])
+    ++ map (readies 3 0) (6 ∷ 7 ∷ 8 ∷ 9 ∷ 10 ∷ [])
     ++ commanded 2048
     ∷ map shares (10 ∷ 5 ∷ 7 ∷ [])
 
 -- "If now e = E and r < k, interpolate and send ready", and not at E + 1; at r = k ready is not sent again; completion at k + t and
--- not at k + t + 1
+-- not at k + t + 1; here k is 4
 abbrev echoes-first : List Call
-echoes-first = map (echoes 1) (3 ∷ 2 ∷ 1 ∷ 10 ∷ 9 ∷ 8 ∷ 7 ∷ 6 ∷ []) ++ map (readies 1) (1 ∷ 2 ∷ 3 ∷ 4 ∷ 5 ∷ 6 ∷ [])
+echoes-first = map (echoes 4 1) (3 ∷ 2 ∷ 1 ∷ 10 ∷ 9 ∷ 8 ∷ 7 ∷ 6 ∷ []) ++ map (readies 4 1) (1 ∷ 2 ∷ 3 ∷ 4 ∷ 5 ∷ 6 ∷ 7 ∷ [])
 
 -- what is looked at: each answer, completion, and e and r at places 0 and 1
 record Shows : Type 0 where
@@ -149,7 +149,7 @@ stand n p =
 -- ---- the statement
 
 pub record Counts : Type 0 where
-  pub readies-first : show (plays (newRecord ten) readies-first)
+  pub readies-first : show (plays (newRecord (ten 3)) readies-first)
       ≡ record {
         told = quiet ∷ quiet ∷ quiet
             ∷ quiet ∷ quiet ∷ sends Ready 330
@@ -161,12 +161,12 @@ pub record Counts : Type 0 where
         completion = With 0;
         counts = 7 ∷ 5 ∷ 0 ∷ 5 ∷ [];
       }
-  pub echoes-first : show (plays (newRecord ten) echoes-first)
+  pub echoes-first : show (plays (newRecord (ten 4)) echoes-first)
       ≡ record {
-        told = quiet ∷ quiet ∷ quiet ∷ quiet ∷ quiet ∷ quiet ∷ sends Ready 330 ∷ quiet
-            ∷ quiet ∷ quiet ∷ quiet ∷ quiet ∷ completes ∷ quiet ∷ [];
+        told = quiet ∷ quiet ∷ quiet ∷ quiet ∷ quiet ∷ quiet ∷ sends Ready 470 ∷ quiet
+            ∷ quiet ∷ quiet ∷ quiet ∷ quiet ∷ quiet ∷ completes ∷ quiet ∷ [];
         completion = With 0;
-        counts = 8 ∷ 6 ∷ 0 ∷ 0 ∷ [];
+        counts = 8 ∷ 7 ∷ 0 ∷ 0 ∷ [];
       }
   pub in-the-gap : stand 5 (plays gap in-the-gap)
       ≡ record {
