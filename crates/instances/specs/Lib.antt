@@ -12,6 +12,7 @@ pub mod WholePlay
 pub mod Counts
 pub mod Boundaries
 pub mod SoundRecords
+pub mod SoundLast
 pub mod Replay
 pub mod Life
 pub mod Accepted
