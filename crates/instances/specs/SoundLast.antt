@@ -3,24 +3,23 @@
 --
 -- In order: records of a class of ten boxes (E is 6, k is 2, k + t is 3), box 1 of which deals; the clauses.
 -- Assumes nothing.
-use mathlib.Core.Path.{_≡_, refl}
+use mathlib.Core.Path.{refl}
 use mathlib.Core.Bool.{Bool, true, false}
 use mathlib.Core.List.{List, [], _∷_, _++_, map}
 use Prim.Native.Nat.{ℕ}
 use lib.ListN.{replicate}
 use Rattle.rules.specs.declared.Completion.the-variants.{NotYet, With}
 use Rattle.rules.specs.declared.Keep.{Keep}
-use Rattle.rules.specs.declared.Kept.the-variants.{There}
 use Rattle.rules.specs.declared.Marks.{Marks}
 use Rattle.rules.specs.declared.Place.{Place}
-use Rattle.rules.specs.declared.Point.the-variants.{Held}
 use Rattle.rules.specs.declared.Record.{Record}
 use Rattle.rules.specs.declared.Row.{Row}
 use Rattle.rules.specs.declared.Slot.{Slot}
 use Rattle.rules.specs.Numbers.{element}
-use Rattle.rules.specs.Record.{silent, nothing, zeroSlot, sound}
+use Rattle.rules.specs.Record.{silent, nothing, zeroSlot}
 use Rattle.rules.specs.Computed.{computed}
-use Rattle.rules.specs.HandSums.{class, sized, four, pair}
+use Rattle.rules.specs.HandSums.{class, sized}
+use Rattle.instances.specs.RecordParts.{holds, keeps, slot, Sound}
 
 -- ---- records
 
@@ -37,11 +36,8 @@ tenth = marks false true
 abbrev both : Marks
 both = marks true true
 
-abbrev holds : ℕ → ℕ → Place
-holds x y = record { point = Held (four x y x y) }
-
-abbrev keeps : ℕ → ℕ → Keep
-keeps s s′ = record { kept = There (pair s s′) }
+abbrev point : ℕ → ℕ → Place
+point x y = holds x y x y
 
 abbrev places : Place → Place → List Place
 places a b = replicate 8 silent ++ a ∷ b ∷ []
@@ -53,16 +49,12 @@ row-of e e′ last = record { at = element e ∷ element e′ ∷ replicate 5 (e
 abbrev rows : ℕ → ℕ → ℕ → ℕ → ℕ → ℕ → List Row
 rows a b c d last corner = row-of a b last ∷ row-of c d 0 ∷ replicate 5 (row-of 0 0 0) ++ row-of 0 0 corner ∷ []
 
-abbrev slot : Bool → List Row → List Place → Marks → Marks → Keep → Slot
-slot used rows places echoed readied kept =
-    record { used = used; rows = rows; places = places; echoed = echoed; readied = readied; pair = kept }
-
 -- the echo of box 10 with this point, and its ready, for a matrix
 abbrev echo-of : List Row → Place → Slot
 echo-of C p = slot true C (places silent p) tenth nobody nothing
 
 abbrev ready-of : List Row → Slot
-ready-of C = slot true C (places silent (holds 0 0)) nobody tenth nothing
+ready-of C = slot true C (places silent (point 0 0)) nobody tenth nothing
 
 abbrev D : List Row
 D = rows 4 13 8 12 0 0
@@ -92,7 +84,7 @@ recovered readied a b ears pair =
     record {
       setup = sized 10 1 2;
       slots = replicate 19 zeroSlot
-          ++ slot true D (replicate 7 silent ++ holds 0 0 ∷ holds 1 1 ∷ holds 2 2 ∷ []) three readied (keeps 7 8)
+          ++ slot true D (replicate 7 silent ++ point 0 0 ∷ point 1 1 ∷ point 2 2 ∷ []) three readied (keeps 7 8)
           ∷ [];
       heard = nobody ∷ three ∷ three ∷ ears ∷ [];
       progress = record { dealt = true; completion = With 19; commanded = true };
@@ -114,33 +106,30 @@ ten-of-four heard =
 
 -- ---- the clauses
 
-abbrev Sound : List Record → List Bool → Type 0
-Sound xs bs = map sound xs ≡ bs
-
 pub record SoundLast : Type 0 where
   -- "stored exponents are below q"
-  pub below : Sound (map (λ p. last (echo-of D p) tenth nobody) (holds 10 10 ∷ holds 11 0 ∷ [])) (true ∷ false ∷ [])
-  pub pair-below : Sound (map (λ p. last (slot true D (places (holds 0 0) (holds 0 0)) nobody both p) nobody both) (keeps 10 10 ∷ keeps 11 0 ∷ []))
+  pub below : Sound (map (λ p. last (echo-of D p) tenth nobody) (point 10 10 ∷ point 11 0 ∷ [])) (true ∷ false ∷ [])
+  pub pair-below : Sound (map (λ p. last (slot true D (places (point 0 0) (point 0 0)) nobody both p) nobody both) (keeps 10 10 ∷ keeps 11 0 ∷ []))
       (true ∷ false ∷ [])
   -- "matrices in use are different": in one entry each
-  pub different : Sound (map (λ C. begun (echo-of D (holds 0 0)) (ready-of C) tenth tenth)
+  pub different : Sound (map (λ C. begun (echo-of D (point 0 0)) (ready-of C) tenth tenth)
       (rows 8 13 8 12 0 0 ∷ rows 4 8 8 12 0 0 ∷ rows 4 13 4 12 0 0 ∷ rows 4 13 8 8 0 0 ∷ D ∷ []))
       (true ∷ true ∷ true ∷ true ∷ false ∷ [])
   -- "and would pass refusal 8"
   pub pass : Sound (map (λ e. last (ready-of (rows 4 13 8 e 0 0)) nobody tenth) (18 ∷ 0 ∷ 22 ∷ [])) (true ∷ false ∷ false ∷ [])
   -- "a sender is marked for echo or ready under at most one matrix each, and then is heard for that tag"
-  pub one-each : Sound (begun (echo-of D (holds 0 0)) (echo-of (rows 8 13 8 12 0 0) (holds 0 0)) tenth nobody
+  pub one-each : Sound (begun (echo-of D (point 0 0)) (echo-of (rows 8 13 8 12 0 0) (point 0 0)) tenth nobody
       ∷ begun (ready-of D) (ready-of (rows 8 13 8 12 0 0)) nobody tenth
-      ∷ last (echo-of D (holds 0 0)) nobody tenth ∷ last (ready-of D) tenth nobody ∷ [])
+      ∷ last (echo-of D (point 0 0)) nobody tenth ∷ last (ready-of D) tenth nobody ∷ [])
       (false ∷ false ∷ false ∷ false ∷ [])
   -- "a place is held exactly if its sender is marked for either; a matrix is in use exactly if some place of it is held"
-  pub held : Sound (last (slot true D (places (holds 0 0) (holds 0 0)) (marks true false) nobody nothing) both both
-      ∷ last (slot true D (places (holds 0 0) silent) both nobody nothing) both both
+  pub held : Sound (last (slot true D (places (point 0 0) (point 0 0)) (marks true false) nobody nothing) both both
+      ∷ last (slot true D (places (point 0 0) silent) both nobody nothing) both both
       ∷ last (slot true D (places silent silent) nobody nobody nothing) both both ∷ [])
       (false ∷ false ∷ false ∷ [])
   -- "a kept pair is there exactly if e ≥ E or r ≥ k"
-  pub pair-there : Sound (last (slot true D (places (holds 0 0) (holds 0 0)) nobody both nothing) nobody both
-      ∷ last (slot true D (places silent (holds 0 0)) nobody tenth (keeps 0 0)) nobody tenth ∷ [])
+  pub pair-there : Sound (last (slot true D (places (point 0 0) (point 0 0)) nobody both nothing) nobody both
+      ∷ last (slot true D (places silent (point 0 0)) nobody tenth (keeps 0 0)) nobody tenth ∷ [])
       (false ∷ false ∷ [])
   -- "a completed box has one completed matrix in use, with r ≥ k + t"; "kept recovery shares .. at most k are kept, their senders alone
   -- are heard for tag 4, and the recovered pair is there exactly if k are kept"
