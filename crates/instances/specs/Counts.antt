@@ -1,14 +1,14 @@
 -- Document 01, "Steps of a box": where counts make a box send or complete, and which place a matrix takes.
 --
--- In order: a class of ten boxes with t = 2 (k 3, so k + t is 5, and E is 13/2 rounded up, 7) and two matrices; plays in which readies
--- come first, and echoes; a record with a gap between places in use; twenty matrices; the statement.
+-- In order: classes of ten boxes with t = 2 (k is 3 or 4, so k + t is 5 or 6, and E is 13/2 rounded up, 7); plays in which readies come
+-- first, echoes, and the last boxes; a record with a gap between places in use; the twentieth matrix; the statement.
 -- Assumes nothing.
 use mathlib.Core.Path.{_≡_, refl}
 use mathlib.Core.Bool.{Bool, true, false}
 use mathlib.Core.List.{List, [], _∷_, _++_, map}
-use Prim.Native.Nat.{ℕ, _+_, _%_, _^_}
+use Prim.Native.Nat.{ℕ, _+_, _*_, _-_, _%_, _^_}
 use lib.Dec.{eqb}
-use lib.ListN.{set, take, replicate}
+use lib.ListN.{length, getD, set, take, drop, replicate}
 use Rattle.folds.specs.Tests.{_and_, pick}
 use Rattle.folds.specs.Runs.{gather}
 use Rattle.rules.specs.declared.Answer.{Answer}
@@ -16,6 +16,8 @@ use Rattle.rules.specs.declared.Completion.{Completion}
 use Rattle.rules.specs.declared.Completion.the-variants.{With}
 use Rattle.rules.specs.declared.Element.{Element}
 use Rattle.rules.specs.declared.Four.{Four}
+use Rattle.rules.specs.declared.Kept.{Kept}
+use Rattle.rules.specs.declared.Kept.the-variants.{There}
 use Rattle.rules.specs.declared.Marks.{Marks}
 use Rattle.rules.specs.declared.Record.{Record}
 use Rattle.rules.specs.declared.SetUp.{SetUp}
@@ -35,46 +37,64 @@ use Rattle.instances.specs.Plays.{Played, plays, quiet, sends, completes
 -- ---- ten boxes, two matrices
 
 -- box 10; dealt by box 3 in session 65,535
-abbrev ten : SetUp
-ten = record { group = 1; n = 10; t = 2; k = 3; i = 10; d = 3; session = 65535 }
+abbrev ten : ℕ → SetUp
+ten k = record { group = 1; n = 10; t = 2; k = k; i = 10; d = 3; session = 65535 }
 
 -- f = c, f' = 0: every point of it is c, 0, c, 0, and every share c, 0
-abbrev constant : ℕ → List (List Element)
-constant c = matrix 3 (element 0) (λ j l. element (pick (eqb j 0 and eqb l 0) (2 ^ c) 1))
+abbrev constant : ℕ → ℕ → List (List Element)
+constant k c = matrix k (element 0) (λ j l. element (pick (eqb j 0 and eqb l 0) (2 ^ c) 1))
 
-abbrev echoes : ℕ → ℕ → Call
-echoes c m = from ten m (echo (constant c) (four c 0 c 0))
+abbrev echoes : ℕ → ℕ → ℕ → Call
+echoes k c m = from (ten k) m (echo (constant k c) (four c 0 c 0))
 
-abbrev readies : ℕ → ℕ → Call
-readies c m = from ten m (ready (constant c) (four c 0 c 0))
+abbrev readies : ℕ → ℕ → ℕ → Call
+readies k c m = from (ten k) m (ready (constant k c) (four c 0 c 0))
 
 abbrev shares : ℕ → Call
-shares m = from ten m (recovery (pair 1 0))
+shares m = from (ten 3) m (recovery (pair 1 0))
+
+-- box 2 of ten, and the matrix of a deal with k = 3: f = 5 + 3y + 7y² + x(2 + 4y + 9y²) + x²(6 + y + 8y²), and
+-- f' = 1 + 6y + 10y² + x(7 + 9y + 3y²) + x²(5 + 2y + 4y²)
+abbrev last-class : SetUp
+last-class = record { group = 1; n = 10; t = 1; k = 3; i = 2; d = 1; session = 7 }
+
+abbrev last-matrix : List (List Element)
+last-matrix = matrix 3 (element 0) (λ j l. element (getD (4 ∷ 13 ∷ 12 ∷ 8 ∷ 12 ∷ 1 ∷ 4 ∷ 18 ∷ 13 ∷ []) (j * 3 + l) 0))
 
 -- ---- the plays
 
 -- "If now r = k and e < E, interpolate and send ready; else if r = k + t, complete"; at e = E ready is not sent again. "Only the first
--- completion counts; later readies for another C are counted and change neither C nor share."; the third share recovers
+-- completion counts; later readies for another C are counted and change neither C nor share.", here at place 0; the third share recovers
 abbrev readies-first : List Call
 readies-first =
-    map (echoes 1) (1 ∷ 2 ∷ 3 ∷ [])
-    ++ map (readies 1) (1 ∷ 2 ∷ 3 ∷ [])
-    ++ map (echoes 1) (4 ∷ 5 ∷ 6 ∷ 7 ∷ [])
-    ++ map (readies 1) (4 ∷ 5 ∷ [])
-    ++ map (readies 0) (6 ∷ 7 ∷ 8 ∷ 9 ∷ 10 ∷ [])
+    echoes 3 0 8
+    ∷ map (echoes 3 1) (1 ∷ 2 ∷ 3 ∷ [])
+    ++ map (readies 3 1) (1 ∷ 2 ∷ 3 ∷ [])
+    ++ map (echoes 3 1) (4 ∷ 5 ∷ 6 ∷ 7 ∷ [])
+    ++ map (readies 3 1) (4 ∷ 5 ∷ [])
+    ++ map (readies 3 0) (6 ∷ 7 ∷ 8 ∷ 9 ∷ 10 ∷ [])
     ++ commanded 2048
     ∷ map shares (10 ∷ 5 ∷ 7 ∷ [])
 
 -- "If now e = E and r < k, interpolate and send ready", and not at E + 1; at r = k ready is not sent again; completion at k + t and
--- not at k + t + 1
+-- not at k + t + 1; here k is 4
 abbrev echoes-first : List Call
-echoes-first = map (echoes 1) (3 ∷ 2 ∷ 1 ∷ 10 ∷ 9 ∷ 8 ∷ 7 ∷ 6 ∷ []) ++ map (readies 1) (1 ∷ 2 ∷ 3 ∷ 4 ∷ 5 ∷ 6 ∷ [])
+echoes-first = map (echoes 4 1) (3 ∷ 2 ∷ 1 ∷ 10 ∷ 9 ∷ 8 ∷ 7 ∷ 6 ∷ []) ++ map (readies 4 1) (1 ∷ 2 ∷ 3 ∷ 4 ∷ 5 ∷ 6 ∷ 7 ∷ [])
 
--- what is looked at: each answer, completion, and e and r at places 0 and 1
+-- at box 2, out of the points of boxes 8, 9 and 10: "Interpolation uses the k lowest-numbered senders held"
+abbrev last-boxes : List Call
+last-boxes =
+    from last-class 10 (ready last-matrix (four 0 8 9 2))
+    ∷ from last-class 9 (ready last-matrix (four 8 2 0 0))
+    ∷ from last-class 8 (ready last-matrix (four 8 2 6 7))
+    ∷ []
+
+-- what is looked at: each answer, completion, e and r at places 0 and 1, and how what was sent last begins
 record Shows : Type 0 where
   told : List Answer
   completion : Completion
   counts : List ℕ
+  last : List ℕ
 
 abbrev show : Played → Shows
 show p =
@@ -82,7 +102,17 @@ show p =
       told = p .told;
       completion = p .left .progress .completion;
       counts = countE (slotAt (p .left) 0) ∷ countR (slotAt (p .left) 0) ∷ countE (slotAt (p .left) 1) ∷ countR (slotAt (p .left) 1) ∷ [];
+      last = take 10 (getD (p .sent) (length (p .sent) - 1) []);
     }
+
+-- and at last, the end of the first message, and the pair kept at place 0
+record Keeps : Type 0 where
+  told : List Answer
+  ends : List ℕ
+  pair : Kept
+
+abbrev kept : Played → Keeps
+kept p = record { told = p .told; ends = take 8 (drop 25 (getD (p .sent) 0 [])); pair = slotAt (p .left) 0 .pair .kept }
 
 -- ---- places
 
@@ -149,25 +179,31 @@ stand n p =
 -- ---- the statement
 
 pub record Counts : Type 0 where
-  pub readies-first : show (plays (newRecord ten) readies-first)
+  pub readies-first : show (plays (newRecord (ten 3)) readies-first)
       ≡ record {
-        told = quiet ∷ quiet ∷ quiet
+        told = quiet
+            ∷ quiet ∷ quiet ∷ quiet
             ∷ quiet ∷ quiet ∷ sends Ready 330
             ∷ quiet ∷ quiet ∷ quiet ∷ quiet
             ∷ quiet ∷ completes
             ∷ quiet ∷ quiet ∷ sends Ready 330 ∷ quiet ∷ quiet
             ∷ sends Recovery 100
             ∷ quiet ∷ quiet ∷ recovers 1 0 ∷ [];
-        completion = With 0;
-        counts = 7 ∷ 5 ∷ 0 ∷ 5 ∷ [];
+        completion = With 1;
+        counts = 1 ∷ 5 ∷ 7 ∷ 5 ∷ [];
+        last = 4 ∷ 0 ∷ 7 ∷ 3 ∷ 255 ∷ 255 ∷ 0 ∷ 1 ∷ 0 ∷ 0 ∷ [];
       }
-  pub echoes-first : show (plays (newRecord ten) echoes-first)
+  pub echoes-first : show (plays (newRecord (ten 4)) echoes-first)
       ≡ record {
-        told = quiet ∷ quiet ∷ quiet ∷ quiet ∷ quiet ∷ quiet ∷ sends Ready 330 ∷ quiet
-            ∷ quiet ∷ quiet ∷ quiet ∷ quiet ∷ completes ∷ quiet ∷ [];
+        told = quiet ∷ quiet ∷ quiet ∷ quiet ∷ quiet ∷ quiet ∷ sends Ready 470 ∷ quiet
+            ∷ quiet ∷ quiet ∷ quiet ∷ quiet ∷ quiet ∷ completes ∷ quiet ∷ [];
         completion = With 0;
-        counts = 8 ∷ 6 ∷ 0 ∷ 0 ∷ [];
+        counts = 8 ∷ 7 ∷ 0 ∷ 0 ∷ [];
+        last = 3 ∷ 0 ∷ 44 ∷ 3 ∷ 255 ∷ 255 ∷ 4 ∷ 0 ∷ 2 ∷ 0 ∷ [];
       }
+  -- the ready to box 1, which ends with 6, 0, 4, 5, and the pair kept
+  pub last-boxes : kept (plays (newRecord last-class) last-boxes)
+      ≡ record { told = quiet ∷ quiet ∷ sends Ready 330 ∷ []; ends = 0 ∷ 6 ∷ 0 ∷ 0 ∷ 0 ∷ 4 ∷ 0 ∷ 5 ∷ []; pair = There (pair 0 2) }
   pub in-the-gap : stand 5 (plays gap in-the-gap)
       ≡ record {
         numbers = 0 ∷ 0 ∷ 0 ∷ [];
@@ -178,10 +214,12 @@ pub record Counts : Type 0 where
       ≡ record {
         numbers = 0 ∷ [];
         used = replicate 20 true;
-        matrices = (1 ∷ 1 ∷ []) ∷ (2 ∷ 1 ∷ []) ∷ (4 ∷ 1 ∷ []) ∷ (8 ∷ 1 ∷ []) ∷ (16 ∷ 1 ∷ []) ∷ (9 ∷ 1 ∷ []) ∷ (18 ∷ 1 ∷ []) ∷ (13 ∷ 1 ∷ []) ∷ (3 ∷ 1 ∷ []) ∷ (6 ∷ 1 ∷ [])
-            ∷ (1 ∷ 2 ∷ []) ∷ (2 ∷ 2 ∷ []) ∷ (4 ∷ 2 ∷ []) ∷ (8 ∷ 2 ∷ []) ∷ (16 ∷ 2 ∷ []) ∷ (9 ∷ 2 ∷ []) ∷ (18 ∷ 2 ∷ []) ∷ (13 ∷ 2 ∷ []) ∷ (3 ∷ 2 ∷ []) ∷ (6 ∷ 2 ∷ []) ∷ [];
+        matrices = (1 ∷ 1 ∷ []) ∷ (2 ∷ 1 ∷ []) ∷ (4 ∷ 1 ∷ []) ∷ (8 ∷ 1 ∷ []) ∷ (16 ∷ 1 ∷ [])
+            ∷ (9 ∷ 1 ∷ []) ∷ (18 ∷ 1 ∷ []) ∷ (13 ∷ 1 ∷ []) ∷ (3 ∷ 1 ∷ []) ∷ (6 ∷ 1 ∷ [])
+            ∷ (1 ∷ 2 ∷ []) ∷ (2 ∷ 2 ∷ []) ∷ (4 ∷ 2 ∷ []) ∷ (8 ∷ 2 ∷ []) ∷ (16 ∷ 2 ∷ [])
+            ∷ (9 ∷ 2 ∷ []) ∷ (18 ∷ 2 ∷ []) ∷ (13 ∷ 2 ∷ []) ∷ (3 ∷ 2 ∷ []) ∷ (6 ∷ 2 ∷ []) ∷ [];
       }
 
 pub counts : Counts
 unfolding plays doing computed
-counts = record { readies-first = refl; echoes-first = refl; in-the-gap = refl; room-for-all = refl }
+counts = record { readies-first = refl; echoes-first = refl; last-boxes = refl; in-the-gap = refl; room-for-all = refl }

@@ -4,7 +4,7 @@
 -- In order: parts of a record; records of the class of the hand sums (E is 3, k is 2, k + t is 3); the clauses, up to the kept pair
 -- and from completion on.
 -- Assumes nothing.
-use mathlib.Core.Path.{_≡_, refl}
+use mathlib.Core.Path.{refl}
 use mathlib.Core.Bool.{Bool, true, false}
 use mathlib.Core.List.{List, [], _∷_, map}
 use Prim.Native.Nat.{ℕ}
@@ -12,18 +12,17 @@ use lib.ListN.{replicate}
 use Rattle.rules.specs.declared.Completion.{Completion}
 use Rattle.rules.specs.declared.Completion.the-variants.{NotYet, With}
 use Rattle.rules.specs.declared.Keep.{Keep}
-use Rattle.rules.specs.declared.Kept.the-variants.{There}
 use Rattle.rules.specs.declared.Marks.{Marks}
 use Rattle.rules.specs.declared.Place.{Place}
-use Rattle.rules.specs.declared.Point.the-variants.{Held}
 use Rattle.rules.specs.declared.Record.{Record}
 use Rattle.rules.specs.declared.Row.{Row}
 use Rattle.rules.specs.declared.SetUp.{SetUp}
 use Rattle.rules.specs.declared.Slot.{Slot}
 use Rattle.rules.specs.Numbers.{element}
-use Rattle.rules.specs.Record.{silent, nothing, zeroSlot, sound}
+use Rattle.rules.specs.Record.{silent, nothing, zeroSlot}
 use Rattle.rules.specs.Computed.{computed}
-use Rattle.rules.specs.HandSums.{class, sized, four, pair}
+use Rattle.rules.specs.HandSums.{class, sized}
+use Rattle.instances.specs.RecordParts.{holds, keeps, slot, Sound}
 
 -- ---- parts
 
@@ -37,6 +36,12 @@ nobody = marks false false false false false
 abbrev first : Marks
 first = marks true false false false false
 
+abbrev two : Marks
+two = marks true true false false false
+
+abbrev three : Marks
+three = marks true true true false false
+
 abbrev all : Marks
 all = marks true true true true false
 
@@ -46,12 +51,6 @@ row-of e e′ e″ = record { at = element e ∷ element e′ ∷ element e″ �
 -- entry (0, 0), and what stands in column and in row k
 abbrev rows : ℕ → ℕ → ℕ → List Row
 rows e column row = row-of e 13 column ∷ row-of 8 12 0 ∷ row-of row 0 0 ∷ replicate 5 (row-of 0 0 0)
-
-abbrev holds : ℕ → ℕ → ℕ → ℕ → Place
-holds x x′ y y′ = record { point = Held (four x x′ y y′) }
-
-abbrev keeps : ℕ → ℕ → Keep
-keeps s s′ = record { kept = There (pair s s′) }
 
 -- places of boxes 1 to 5
 abbrev places : Place → Place → Place → Place → Place → List Place
@@ -64,9 +63,8 @@ one p = places p silent silent silent silent
 abbrev four-held : List Place
 four-held = places (holds 10 5 9 6) (holds 0 1 2 3) (holds 4 5 6 7) (holds 8 9 10 0) silent
 
-abbrev slot : Bool → List Row → List Place → Marks → Marks → Keep → Slot
-slot used rows places echoed readied kept =
-    record { used = used; rows = rows; places = places; echoed = echoed; readied = readied; pair = kept }
+abbrev three-held : List Place
+three-held = places (holds 10 5 9 6) (holds 0 1 2 3) (holds 4 5 6 7) silent silent
 
 -- places 0 and 1 for matrices, who is heard for tags 1 to 4, and the rest
 abbrev holding : SetUp → Slot → Slot → List Marks → Bool → Completion → Bool → List Keep → Keep → Record
@@ -100,6 +98,13 @@ one-echo e p = slot true (rows e 0 0) (one p) first nobody nothing
 abbrev its-echo : Slot
 its-echo = one-echo 4 (holds 10 5 9 6)
 
+abbrev one-ready : ℕ → Slot
+one-ready e = slot true (rows e 0 0) (one (holds 0 0 0 0)) nobody first nothing
+
+-- points of boxes 1 and 2
+abbrev two-held : Marks → Marks → Keep → Slot
+two-held = slot true (rows 4 0 0) (places (holds 1 1 1 1) (holds 1 1 1 1) silent silent silent)
+
 -- all echoes, readies of these, and this pair kept
 abbrev echoed : Marks → Keep → Slot
 echoed readied kept = slot true (rows 4 0 0) four-held all readied kept
@@ -118,17 +123,11 @@ recovering completion commanded a b c ears recovered =
 abbrev recovered : Keep → Keep → Keep → Marks → Keep → Record
 recovered = recovering (With 0) true
 
-abbrev two : Marks
-two = marks true true false false false
-
 -- box 5 of four
 abbrev fifth : Marks
 fifth = marks false false false false true
 
 -- ---- the clauses
-
-abbrev Sound : List Record → List Bool → Type 0
-Sound xs bs = map sound xs ≡ bs
 
 pub record SoundRecords : Type 0 where
   -- "its group and set-up numbers keep their rules"
@@ -149,16 +148,14 @@ pub record SoundRecords : Type 0 where
   pub recovered-below : Sound (map (recovered (keeps 7 8) (keeps 9 4) nothing two) (keeps 10 10 ∷ keeps 11 1 ∷ keeps 5 11 ∷ []))
       (true ∷ false ∷ false ∷ [])
   -- "matrices in use are different and would pass refusal 8": the same twice; 0, 5 and 25 as an entry
-  pub different : Sound (map (λ e. begun its-echo (slot true (rows e 0 0) (one (holds 10 5 9 6)) nobody first nothing) first first) (8 ∷ 4 ∷ []))
-      (true ∷ false ∷ [])
-  pub pass : Sound (map (λ e. begun (one-echo e (holds 10 5 9 6)) zeroSlot first nobody) (18 ∷ 0 ∷ 5 ∷ 25 ∷ [])) (true ∷ false ∷ false ∷ false ∷ [])
+  pub different : Sound (map (λ e. begun its-echo (one-ready e) first first) (8 ∷ 4 ∷ [])) (true ∷ false ∷ [])
+  pub pass : Sound (map (λ e. begun (one-echo e (holds 10 5 9 6)) zeroSlot first nobody) (18 ∷ 0 ∷ 5 ∷ 25 ∷ []))
+      (true ∷ false ∷ false ∷ false ∷ [])
   -- "a sender is marked for echo or ready under at most one matrix each, and then is heard for that tag"
-  pub one-each : Sound (begun its-echo (one-echo 8 (holds 0 0 0 0)) first nobody
-      ∷ begun (slot true (rows 4 0 0) (one (holds 0 0 0 0)) nobody first nothing) (slot true (rows 8 0 0) (one (holds 0 0 0 0)) nobody first nothing) nobody first ∷ [])
+  pub one-each : Sound (begun its-echo (one-echo 8 (holds 0 0 0 0)) first nobody ∷ begun (one-ready 4) (one-ready 8) nobody first ∷ [])
       (false ∷ false ∷ [])
   pub heard : Sound (begun its-echo zeroSlot first nobody ∷ begun its-echo zeroSlot nobody nobody ∷ begun its-echo zeroSlot nobody first
-      ∷ begun (slot true (rows 4 0 0) (one (holds 0 0 0 0)) nobody first nothing) zeroSlot first nobody
-      ∷ begun zeroSlot zeroSlot all all ∷ new class all ∷ [])
+      ∷ begun (one-ready 4) zeroSlot first nobody ∷ begun zeroSlot zeroSlot all all ∷ new class all ∷ [])
       (true ∷ false ∷ false ∷ false ∷ true ∷ true ∷ [])
   -- "a place is held exactly if its sender is marked for either"; "a matrix is in use exactly if some place of it is held"; a place in
   -- use above one that is not
@@ -170,13 +167,12 @@ pub record SoundRecords : Type 0 where
       ∷ begun (slot true (rows 4 0 0) (one silent) nobody nobody nothing) zeroSlot first nobody
       ∷ begun (slot false (zeroSlot .rows) (one (holds 1 1 1 1)) first nobody nothing) zeroSlot first nobody ∷ [])
       (true ∷ false ∷ false ∷ [])
-  -- "a kept pair is there exactly if e ≥ E or r ≥ k": e 4; e 0 and r 2; e 1 and r 0; e 0 and r 1
+  -- "a kept pair is there exactly if e ≥ E or r ≥ k": e 4 and r 0; e 3 and r 0; e 0 and r 2; e 2 and r 1
   pub pair-there : Sound (map (λ p. begun (echoed nobody p) zeroSlot all nobody) (keeps 0 0 ∷ nothing ∷ [])) (true ∷ false ∷ [])
-  pub pair-by-readies : Sound (map (λ p. begun (slot true (rows 4 0 0) (places (holds 1 1 1 1) (holds 1 1 1 1) silent silent silent) nobody two p) zeroSlot nobody two) (keeps 0 0 ∷ nothing ∷ []))
+  pub pair-at-E : Sound (map (λ p. begun (slot true (rows 4 0 0) three-held three nobody p) zeroSlot all nobody) (keeps 0 0 ∷ nothing ∷ []))
       (true ∷ false ∷ [])
-  pub no-pair : Sound (begun (slot true (rows 4 0 0) (places (holds 1 1 1 1) (holds 1 1 1 1) silent silent silent) two first (keeps 0 0)) zeroSlot two first
-      ∷ begun (slot true (rows 4 0 0) (places (holds 1 1 1 1) (holds 1 1 1 1) silent silent silent) two first nothing) zeroSlot two first ∷ [])
-      (false ∷ true ∷ [])
+  pub pair-by-readies : Sound (map (λ p. begun (two-held nobody two p) zeroSlot nobody two) (keeps 0 0 ∷ nothing ∷ [])) (true ∷ false ∷ [])
+  pub no-pair : Sound (map (λ p. begun (two-held two first p) zeroSlot two first) (keeps 0 0 ∷ nothing ∷ [])) (false ∷ true ∷ [])
 
 pub sound-records : SoundRecords
 unfolding computed
@@ -194,6 +190,7 @@ sound-records =
       held = refl;
       in-use = refl;
       pair-there = refl;
+      pair-at-E = refl;
       pair-by-readies = refl;
       no-pair = refl;
     }
@@ -201,7 +198,7 @@ sound-records =
 pub record SoundEnds : Type 0 where
   -- "a completed box has one completed matrix in use, with r ≥ k + t": r 3 and r 2; a place not in use; no place. Readies of k + t
   -- and no completion are sound
-  pub completion : Sound (completed (echoed (marks true true true false false) (keeps 9 4)) false 0
+  pub completion : Sound (completed (echoed three (keeps 9 4)) false 0
       ∷ completed (echoed two (keeps 9 4)) false 0
       ∷ completed (echoed all (keeps 9 4)) false 1
       ∷ completed (echoed all (keeps 9 4)) false 20
@@ -215,10 +212,10 @@ pub record SoundEnds : Type 0 where
       ∷ recovering (With 0) false (keeps 7 8) nothing nothing first nothing ∷ [])
       (true ∷ false ∷ true ∷ false ∷ [])
   pub at-most-k : Sound (recovered (keeps 7 8) (keeps 9 4) nothing two (keeps 5 1)
-      ∷ recovered (keeps 7 8) (keeps 9 4) (keeps 0 0) (marks true true true false false) (keeps 5 1)
-      ∷ recovered (keeps 7 8) (keeps 9 4) (keeps 0 0) (marks true true true false false) nothing ∷ [])
+      ∷ recovered (keeps 7 8) (keeps 9 4) (keeps 0 0) three (keeps 5 1)
+      ∷ recovered (keeps 7 8) (keeps 9 4) (keeps 0 0) three nothing ∷ [])
       (true ∷ false ∷ false ∷ [])
-  pub senders-alone : Sound (map (λ ears. recovered (keeps 7 8) (keeps 9 4) nothing ears (keeps 5 1)) (first ∷ marks true true true false false ∷ []))
+  pub senders-alone : Sound (map (λ ears. recovered (keeps 7 8) (keeps 9 4) nothing ears (keeps 5 1)) (first ∷ three ∷ []))
       (false ∷ false ∷ [])
   pub recovered-there : Sound (recovered (keeps 7 8) (keeps 9 4) nothing two nothing ∷ recovered (keeps 7 8) nothing nothing first (keeps 5 1) ∷ [])
       (false ∷ false ∷ [])
@@ -232,7 +229,8 @@ pub record SoundEnds : Type 0 where
   pub senders : Sound (new class fifth
       ∷ begun (slot true (rows 4 0 0) (places silent silent silent silent (holds 1 1 1 1)) fifth nobody nothing) zeroSlot fifth nobody
       ∷ begun (slot true (rows 4 0 0) (places silent silent silent silent (holds 1 1 1 1)) nobody fifth nothing) zeroSlot nobody fifth
-      ∷ begun zeroSlot zeroSlot fifth nobody ∷ begun zeroSlot zeroSlot nobody fifth ∷ recovered (keeps 7 8) nothing nothing (marks true false false false true) nothing ∷ [])
+      ∷ begun zeroSlot zeroSlot fifth nobody ∷ begun zeroSlot zeroSlot nobody fifth
+      ∷ recovered (keeps 7 8) nothing nothing (marks true false false false true) nothing ∷ [])
       (false ∷ false ∷ false ∷ false ∷ false ∷ false ∷ [])
 
 pub sound-ends : SoundEnds

@@ -11,11 +11,7 @@ use lib.ListN.{replicate}
 use Rattle.rules.specs.declared.Answer.{Answer}
 use Rattle.rules.specs.declared.Completion.the-variants.{With}
 use Rattle.rules.specs.declared.Element.{Element}
-use Rattle.rules.specs.declared.Keep.{Keep}
-use Rattle.rules.specs.declared.Kept.the-variants.{There}
 use Rattle.rules.specs.declared.Marks.{Marks}
-use Rattle.rules.specs.declared.Place.{Place}
-use Rattle.rules.specs.declared.Point.the-variants.{Held}
 use Rattle.rules.specs.declared.Record.{Record}
 use Rattle.rules.specs.declared.Row.{Row}
 use Rattle.rules.specs.declared.Sent.the-variants.{Send, Echo, Ready, Recovery}
@@ -26,6 +22,7 @@ use Rattle.rules.specs.Record.{silent, nothing, zeroSlot, newRecord}
 use Rattle.rules.specs.Computed.{computed}
 use Rattle.rules.specs.HandSums.{class, coins, four, pair, C, dealt}
 use Rattle.demands.specs.Terms.Histories.{Call, deals, commanded, doing}
+use Rattle.instances.specs.RecordParts.{holds, keeps, slot}
 use Rattle.instances.specs.Plays.{plays, refused, quiet, sends, completes, recovers, from}
 
 -- ---- the calls
@@ -143,24 +140,16 @@ marks a b c d = record { at = a ∷ b ∷ c ∷ d ∷ replicate 6 false }
 abbrev row-of : ℕ → ℕ → Row
 row-of e e′ = record { at = element e ∷ element e′ ∷ replicate 6 (element 0) }
 
-abbrev holds : ℕ → ℕ → ℕ → ℕ → Place
-holds x x′ y y′ = record { point = Held (four x x′ y y′) }
-
-abbrev keeps : ℕ → ℕ → Keep
-keeps s s′ = record { kept = There (pair s s′) }
-
 -- "A sender has one point per C, its first checked one, be it in echo or ready; it may count once in e and once in r."; "The record
 -- keeps that pair from then on"
 abbrev its-slot : Slot
 its-slot =
-    record {
-      used = true;
-      rows = row-of 4 13 ∷ row-of 8 12 ∷ replicate 6 (row-of 0 0);
-      places = holds 3 1 3 1 ∷ holds 9 6 10 5 ∷ holds 4 0 6 9 ∷ holds 4 3 7 0 ∷ replicate 6 silent;
-      echoed = marks false true true true;
-      readied = marks true true true true;
-      pair = keeps 7 8;
-    }
+    slot true
+    (row-of 4 13 ∷ row-of 8 12 ∷ replicate 6 (row-of 0 0))
+    (holds 3 1 3 1 ∷ holds 9 6 10 5 ∷ holds 4 0 6 9 ∷ holds 4 3 7 0 ∷ replicate 6 silent)
+    (marks false true true true)
+    (marks true true true true)
+    (keeps 7 8)
 
 -- "An accepted message marks its sender heard for its tag."
 abbrev end : Record

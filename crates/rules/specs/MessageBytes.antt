@@ -6,12 +6,13 @@ use mathlib.Core.Path.{_≡_, refl}
 use mathlib.Core.List.{List, [], _∷_}
 use Prim.Native.Nat.{ℕ, _*_, _+_}
 use lib.ListN.{length, getD}
+use Rattle.rules.specs.declared.Exponent.{Exponent}
 use Rattle.rules.specs.declared.Element.{Element}
 use Rattle.rules.specs.declared.SetUp.{SetUp}
-use Rattle.rules.specs.Numbers.{element}
+use Rattle.rules.specs.Numbers.{element, groupOf}
 use Rattle.rules.specs.Matrices.{matrix}
 use Rattle.rules.specs.Messages.{Message, send, echo, ready, recovery, bytesOf, toEach, wholeLength, written, messageIn}
-use Rattle.rules.specs.Dealing.{fOf, f′Of, polynomialsOf}
+use Rattle.rules.specs.Dealing.{fOf, f′Of, commitment, polynomialsOf}
 use Rattle.rules.specs.Computed.{computed}
 use Rattle.rules.specs.HandSums.{class, coins, sized, four, pair, C, dealt}
 
@@ -28,6 +29,19 @@ second-group = record { group = 2; n = 4; t = 1; k = 2; i = 2; d = 4; session = 
 abbrev pub entries-2 : List (List Element)
 entries-2 = matrix 2 (element 0) (λ j l. element (getD (1798 ∷ 58 ∷ 236 ∷ 1435 ∷ []) (j * 2 + l) 0))
 
+-- k = 3, secret 5: f = 5 + 3y + 7y² + x(2 + 4y + 9y²) + x²(6 + y + 8y²), and f' = 1 + 6y + 10y² + x(7 + 9y + 3y²) + x²(5 + 2y + 4y²)
+abbrev class-3 : SetUp
+class-3 = sized 5 1 3
+
+abbrev coins-3 : List ℕ
+coins-3 = 3 ∷ 7 ∷ 2 ∷ 4 ∷ 9 ∷ 6 ∷ 1 ∷ 8 ∷ 1 ∷ 6 ∷ 10 ∷ 7 ∷ 9 ∷ 3 ∷ 5 ∷ 2 ∷ 4 ∷ []
+
+abbrev f-3 : List (List Exponent)
+f-3 = fOf class-3 5 coins-3
+
+abbrev f′-3 : List (List Exponent)
+f′-3 = f′Of class-3 5 coins-3
+
 -- a send of the largest class
 abbrev largest : ℕ → Message
 largest j = send (matrix 8 (element 0) (λ j l. element 1)) (polynomialsOf 11 8 (fOf (sized 10 1 8) 0 []) (f′Of (sized 10 1 8) 0 []) j)
@@ -41,6 +55,10 @@ pub record MessageBytes : Type 0 where
   pub send-31 : bytesOf class (send (C 5 coins) (dealt 5 coins 1))
       ≡ 1 ∷ 0 ∷ 28 ∷ 1 ∷ 0 ∷ 7 ∷ 2 ∷ 0 ∷ 4 ∷ 0 ∷ 13 ∷ 0 ∷ 8 ∷ 0 ∷ 12
       ∷ 0 ∷ 7 ∷ 0 ∷ 7 ∷ 0 ∷ 8 ∷ 0 ∷ 4 ∷ 0 ∷ 8 ∷ 0 ∷ 6 ∷ 0 ∷ 7 ∷ 0 ∷ 5 ∷ []
+  -- the same to box 3, of a class with k = 3
+  pub send-49 : bytesOf class-3 (send (commitment (groupOf 1) 3 f-3 f′-3) (polynomialsOf 11 3 f-3 f′-3 3))
+      ≡ 1 ∷ 0 ∷ 46 ∷ 1 ∷ 0 ∷ 7 ∷ 3 ∷ 0 ∷ 4 ∷ 0 ∷ 13 ∷ 0 ∷ 12 ∷ 0 ∷ 8 ∷ 0 ∷ 12 ∷ 0 ∷ 1 ∷ 0 ∷ 4 ∷ 0 ∷ 18 ∷ 0 ∷ 13
+      ∷ 0 ∷ 10 ∷ 0 ∷ 2 ∷ 0 ∷ 7 ∷ 0 ∷ 1 ∷ 0 ∷ 7 ∷ 0 ∷ 0 ∷ 0 ∷ 0 ∷ 0 ∷ 7 ∷ 0 ∷ 4 ∷ 0 ∷ 10 ∷ 0 ∷ 6 ∷ 0 ∷ 3 ∷ []
   -- "An echo or ready ends with α, α', β, β'": of box 2 to box 1; "All two-byte numbers are high byte first": session 258
   pub echo-23 : bytesOf later (echo (C 5 coins) (four 9 6 10 5))
       ≡ 2 ∷ 0 ∷ 20 ∷ 3 ∷ 1 ∷ 2 ∷ 2 ∷ 0 ∷ 4 ∷ 0 ∷ 13 ∷ 0 ∷ 8 ∷ 0 ∷ 12 ∷ 0 ∷ 9 ∷ 0 ∷ 6 ∷ 0 ∷ 10 ∷ 0 ∷ 5 ∷ []
@@ -77,6 +95,7 @@ unfolding computed
 message-bytes =
     record {
       send-31 = refl;
+      send-49 = refl;
       echo-23 = refl;
       ready-23 = refl;
       recovery-10 = refl;

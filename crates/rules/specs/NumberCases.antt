@@ -1,7 +1,7 @@
 -- Document 01, "Numbers": what its sums by hand leave open. Sums in the second group, the rules of the set-up numbers on their
 -- boundaries, and the echo quorum where it is rounded.
 --
--- In order: a deal in group 2; set-ups; what is computed of them.
+-- In order: a deal in group 2; rows of a table; set-ups; what is computed of them.
 -- Assumes nothing.
 use mathlib.Core.Path.{_≡_, refl}
 use mathlib.Core.Bool.{true, false}
@@ -9,7 +9,7 @@ use mathlib.Core.List.{List, [], _∷_, map}
 use Prim.Native.Nat.{ℕ}
 use Rattle.rules.specs.declared.Exponent.{Exponent}
 use Rattle.rules.specs.declared.Group.{Group}
-use Rattle.rules.specs.Numbers.{groupOf, echoQuorum}
+use Rattle.rules.specs.Numbers.{element, groupOf, logarithm, rowKeeps, echoQuorum}
 use Rattle.rules.specs.Dealing.{fOf, f′Of, committed, commitment, polynomialsOf, inGroup, polynomialCheck, pointCheck, shareCheck}
 use Rattle.rules.specs.Answers.{setUp}
 use Rattle.rules.specs.Computed.{computed}
@@ -30,6 +30,11 @@ f = fOf (sized 4 1 2) 1000 coins
 abbrev f′ : List (List Exponent)
 f′ = f′Of (sized 4 1 2) 1000 coins
 
+-- ---- rows of a table: p, q, g, h
+
+abbrev row : ℕ → ℕ → ℕ → ℕ → Group
+row p q g h = record { p = p; q = q; g = element g; h = element h }
+
 -- ---- set-ups
 
 -- group, n, t, k, i, d, session: its answer
@@ -42,6 +47,13 @@ quorum n t k = echoQuorum (sized n t k)
 -- ---- what is computed of them
 
 pub record NumberCases : Type 0 where
+  -- "Both p = 2q + 1, p and q prime; g and h have order q.": the table and a third such row; then p 31 and q 3, q 9, g 1, h of order 22,
+  -- h no element
+  pub rule : map rowKeeps (row 23 11 2 3 ∷ row 2039 1019 4 9 ∷ row 47 23 4 9 ∷ []) ≡ true ∷ true ∷ true ∷ []
+  pub broken : map rowKeeps (row 31 3 5 25 ∷ row 19 9 4 5 ∷ row 23 11 1 3 ∷ row 23 11 2 1 ∷ row 23 11 2 5 ∷ row 23 11 2 26 ∷ row 23 11 2 0 ∷ [])
+      ≡ false ∷ false ∷ false ∷ false ∷ false ∷ false ∷ false ∷ []
+  -- "the logarithm of h to g can be found by counting"
+  pub logarithms : (logarithm (groupOf 1) ≡ 8) × (logarithm (groupOf 2) ≡ 515)
   -- "| 2 | 2039 | 1019 | 4 | 9 |": "Entry (j, l) of C is g to the f coefficient of x^j y^l times h to the f' one."
   pub generators : (committed G 1 0 ≡ 4) × (committed G 0 1 ≡ 9) × (committed G 1018 1018 ≡ 1416)
   pub deal : commitment G 2 f f′ ≡ entries-2
@@ -71,6 +83,9 @@ pub number-cases : NumberCases
 unfolding computed
 number-cases =
     record {
+      rule = refl;
+      broken = refl;
+      logarithms = (refl, refl);
       generators = (refl, refl, refl);
       deal = refl;
       polynomials = refl;

@@ -7,7 +7,7 @@ use mathlib.Core.List.{List, _++_}
 use Prim.Native.Nat.{ℕ}
 use Prim.Native.String.{String}
 use lib.ListN.{replicate}
-use Rattle.rules.specs.Text.{text}
+use Rattle.rules.specs.Text.{text, decimal}
 use Rattle.rules.specs.Sheet.{printed, page}
 use Rattle.rules.specs.Computed.{computed}
 
@@ -50,6 +50,8 @@ pub record SheetLines : Type 0 where
   -- group 2: numbers of four digits, q and q - 1
   pub group-2 : prints "sheet 2 4 1 2\n1798 58 236 1435\n1 1002 607\n2 1018 1018\n3 1019 0\n4 1008 369\n"
       "1 verified\n2 refused 10\n3 refused 9\n4 verified\nsecret 1000 7 from 1 4\n"
+  -- decimals "without leading zeros"
+  pub decimals : (decimal 0 ≡ text "0") × (decimal 10 ≡ text "10") × (decimal 909 ≡ text "909") × (decimal 65535 ≡ text "65535")
   -- box 10
   pub ten-boxes : prints "sheet 1 10 1 2\n4 13 8 12\n1 silent\n2 silent\n3 silent\n4 silent\n5 silent\n6 silent\n7 silent\n8 silent\n9 1 9\n10 3 5\n"
       "1 silent\n2 silent\n3 silent\n4 silent\n5 silent\n6 silent\n7 silent\n8 silent\n9 verified\n10 verified\nsecret 5 1 from 9 10\n"
@@ -66,6 +68,7 @@ sheet-lines =
       two-of-3 = refl;
       refused-9 = refl;
       group-2 = refl;
+      decimals = (refl, refl, refl, refl);
       ten-boxes = refl;
       page-511 = refl;
       page-512 = refl;
