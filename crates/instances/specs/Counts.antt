@@ -1,7 +1,8 @@
 -- Document 01, "Steps of a box": where counts make a box send or complete, and which place a matrix takes.
 --
 -- In order: classes of ten boxes with t = 2 (k is 3 or 4, so k + t is 5 or 6, and E is 13/2 rounded up, 7); plays in which readies come
--- first, echoes, and the last boxes; a record with a gap between places in use; the twentieth matrix; the statement.
+-- first, echoes, and the last boxes; a record with a gap between places in use; one that k + t readies did not complete; the twentieth
+-- matrix; the statement.
 -- Assumes nothing.
 use mathlib.Core.Path.{_≡_, refl}
 use mathlib.Core.Bool.{Bool, true, false}
@@ -13,7 +14,7 @@ use Rattle.folds.specs.Tests.{_and_, pick}
 use Rattle.folds.specs.Runs.{gather}
 use Rattle.rules.specs.declared.Answer.{Answer}
 use Rattle.rules.specs.declared.Completion.{Completion}
-use Rattle.rules.specs.declared.Completion.the-variants.{With}
+use Rattle.rules.specs.declared.Completion.the-variants.{NotYet, With}
 use Rattle.rules.specs.declared.Element.{Element}
 use Rattle.rules.specs.declared.Four.{Four}
 use Rattle.rules.specs.declared.Kept.{Kept}
@@ -28,7 +29,7 @@ use Rattle.rules.specs.Numbers.{element}
 use Rattle.rules.specs.Matrices.{matrix, entry}
 use Rattle.rules.specs.Messages.{echo, ready, recovery}
 use Rattle.rules.specs.Record.{slotAt, matrixOf, countE, countR, zeroSlot, newRecord}
-use Rattle.rules.specs.Steps.{withSlots, withHeard, heard, opened, taken}
+use Rattle.rules.specs.Steps.{withSlots, withHeard, heard, opened, taken, keeping}
 use Rattle.rules.specs.Computed.{computed}
 use Rattle.rules.specs.HandSums.{class, sized, four, pair}
 use Rattle.demands.specs.Terms.Histories.{Call, commanded, doing}
@@ -135,6 +136,16 @@ in-the-gap =
     ∷ from class 3 (ready (other 4 0) (four 4 0 4 0))
     ∷ []
 
+-- a sound record with r = k + t = 3 and no completion: the fourth ready does not complete it, for r is not k + t then
+abbrev passed-by : Record
+passed-by =
+    let p = four 1 0 1 0 in
+    let three = taken ByReady (taken ByReady (taken ByReady (opened (other 1 0) zeroSlot) 0 p) 1 p) 2 p in
+    withSlots (heard (heard (heard (newRecord class) 3 0) 3 1) 3 2) (set (newRecord class .slots) 0 (keeping three (pair 1 0)))
+
+abbrev fourth : List Call
+fourth = from class 4 (ready (other 1 0) (four 1 0 1 0)) ∷ []
+
 -- "at most 20 such C's can occur and there is room for all": ten boxes, each with another matrix in its echo and in its ready, all
 -- but the ready of box 10, for which place 19 is left
 abbrev large : SetUp
@@ -201,6 +212,7 @@ pub record Counts : Type 0 where
         counts = 8 ∷ 7 ∷ 0 ∷ 0 ∷ [];
         last = 3 ∷ 0 ∷ 44 ∷ 3 ∷ 255 ∷ 255 ∷ 4 ∷ 0 ∷ 2 ∷ 0 ∷ [];
       }
+  pub passed-by : show (plays passed-by fourth) ≡ record { told = quiet ∷ []; completion = NotYet; counts = 0 ∷ 4 ∷ 0 ∷ 0 ∷ []; last = [] }
   -- the ready to box 1, which ends with 6, 0, 4, 5, and the pair kept
   pub last-boxes : kept (plays (newRecord last-class) last-boxes)
       ≡ record { told = quiet ∷ quiet ∷ sends Ready 330 ∷ []; ends = 0 ∷ 6 ∷ 0 ∷ 0 ∷ 0 ∷ 4 ∷ 0 ∷ 5 ∷ []; pair = There (pair 0 2) }
@@ -222,4 +234,4 @@ pub record Counts : Type 0 where
 
 pub counts : Counts
 unfolding plays doing computed
-counts = record { readies-first = refl; echoes-first = refl; last-boxes = refl; in-the-gap = refl; room-for-all = refl }
+counts = record { readies-first = refl; echoes-first = refl; passed-by = refl; last-boxes = refl; in-the-gap = refl; room-for-all = refl }
