@@ -4,6 +4,7 @@ and the proved programs can be played against each other."""
 
 import re
 from functools import lru_cache
+from pathlib import Path
 from typing import NamedTuple
 
 
@@ -531,20 +532,22 @@ def last_line(group, k, shares, verdicts):
 
 LINE_BYTES = 8192  # with the newline
 HEXADECIMAL = re.compile(rb"(?:[0-9a-f]{2})+")
-BAD = "bad line\n"
+HELP = Path(__file__).with_name("help.out")  # what `help`, `help 0`, .., `help 20` print: the one place of these texts
+HELP_TOP = 20
 
 
-def console(data, help_text=""):
-    """All that the console prints for this input. The answer to help is free text."""
-    return b"".join(answer for _, answer in exchanges(data, help_text))
+def console(data):
+    """All that the console prints for this input."""
+    return b"".join(answer for _, answer in exchanges(data))
 
 
-def exchanges(data, help_text=""):
-    """Each line of the input, as it came, with its answer."""
-    session = Console(help_text)
+def exchanges(data):
+    """Each line of the input, as it came, with its answer, up to the one that ends the program."""
+    session = Console()
     for line in split_lines(data):
-        whole = line.endswith(b"\n") and len(line) <= LINE_BYTES
-        yield line, (session.answer(line[:-1]) if whole else BAD).encode()
+        yield line, session.answer(line).encode()
+        if session.ended:
+            return
 
 
 def split_lines(data):
@@ -552,56 +555,145 @@ def split_lines(data):
     return re.findall(rb"[^\n]*\n|[^\n]+", data)
 
 
+@lru_cache
+def helps():
+    """What `help` prints, and for each number from 0 what `help` with it does."""
+    lines = HELP.read_text().splitlines(keepends=True)
+    return "".join(lines[:-HELP_TOP - 1]), lines[-HELP_TOP - 1:]
+
+
+# What a line says
+
+
+def up_to(top):
+    """The form of a decimal up to top: the number, or None for another form."""
+    def read(item):
+        numbers = decimals([item])
+        return numbers[0] if numbers and numbers[0] <= top else None
+    return read
+
+
+def hexadecimal(item):
+    """Small letters, an even number of digits; - stands for no bytes. None for another form."""
+    if item == b"-":
+        return b""
+    return bytes.fromhex(item.decode()) if HEXADECIMAL.fullmatch(item) else None
+
+
+class Form(NamedTuple):
+    """How many items a word wants, and the form of each; the last form is that of all behind it, too."""
+    fewest: int
+    most: int
+    items: tuple = ()
+
+
+ANY = up_to(65535)
+FORMS = {
+    b"setup": Form(7, 7, (ANY,)),
+    b"lend": Form(1, 1, (up_to(4096),)),
+    b"deal": Form(1, LINE_BYTES, (ANY,)),
+    b"deliver": Form(2, 2, (ANY, hexadecimal)),
+    b"recover": Form(0, 0),
+    b"show": Form(0, 0),
+    b"read": Form(1, 1, (hexadecimal,)),
+    b"points": Form(1, 1, (up_to(PLACES - 1),)),
+    b"help": Form(0, 1, (up_to(HELP_TOP),)),
+    b"quit": Form(0, 0),
+}
+
+
+def unfinished(line):
+    """The reasons that come before all others; None for a whole line."""
+    if len(line) > LINE_BYTES:
+        return "too long"
+    return None if line.endswith(b"\n") else "cut off"
+
+
+def unreadable(line):
+    """The first byte outside 32..126; else the first space at the start, at the end or behind another one."""
+    for at, byte in enumerate(line, 1):
+        if not 32 <= byte <= 126:
+            return f"byte {byte} at {at}"
+    for at, byte in enumerate(line, 1):
+        if byte == 32 and (at in (1, len(line)) or line[at - 2] == 32):
+            return f"space at {at}"
+    return None
+
+
+def said(line):
+    """The reason why this line says nothing, or None; its word and its items, each as what it stands for."""
+    word, *items = line.split(b" ")
+    reason = unreadable(line)
+    if not reason and word not in FORMS:
+        reason = "no such word"
+    if not reason and not FORMS[word].fewest <= len(items) <= FORMS[word].most:
+        reason = "items"
+    if reason:
+        return reason, word, []
+    forms = FORMS[word].items
+    values = [forms[min(at, len(forms) - 1)](item) for at, item in enumerate(items)]
+    return (f"item {values.index(None) + 1}" if None in values else None), word, values
+
+
 class Console:
     """One box at a keyboard."""
 
-    def __init__(self, help_text=""):
-        self.box, self.lent, self.help_text = Box(), LENT, help_text
+    def __init__(self):
+        self.box, self.lent, self.ended = Box(), LENT, False
 
     def answer(self, line):
-        """The answer to one whole line without its newline. A bad line changes nothing."""
-        command, *words = line.split(b" ")
-        if not words and command in (b"recover", b"show", b"help"):
-            return {b"recover": self.recover, b"show": self.show, b"help": lambda: self.help_text}[command]()
-        if command == b"deliver" and len(words) == 2:
-            return self.deliver(decimals(words[:1]), words[1])
-        numbers = decimals(words)
-        if numbers is None:
-            return BAD
-        if command == b"setup" and len(numbers) == 7:
-            return told(*self.box.set_up(*numbers))
-        if command == b"lend" and len(numbers) == 1 and numbers[0] <= 4096:
-            self.lent = numbers[0]
-            return f"lent {self.lent}\n"
-        if command == b"deal" and numbers:
-            return told(*self.box.deal(numbers[0], numbers[1:], self.lent))
-        return BAD
+        """The answer to one line as it came. A bad line changes nothing; an empty one and a comment get no answer."""
+        reason, word, items = unfinished(line), None, []
+        if not reason and (line == b"\n" or line.startswith(b"#")):
+            return ""
+        if not reason:
+            reason, word, items = said(line[:-1])
+        return f"bad line: {reason}\n" if reason else getattr(self, word.decode())(*items)
+
+    def setup(self, *numbers):
+        return told(*self.box.set_up(*numbers))
+
+    def lend(self, lent):
+        self.lent = lent
+        return f"lent {lent}\n"
+
+    def deal(self, secret, *coins):
+        return told(*self.box.deal(secret, coins, self.lent))
+
+    def deliver(self, sender, text):
+        return told(*self.box.deliver(sender, text, self.lent))
 
     def recover(self):
         return told(*self.box.recover(self.lent))
 
-    def deliver(self, sender, text):
-        """- stands for a message of no bytes."""
-        if sender is None or text != b"-" and not HEXADECIMAL.fullmatch(text):
-            return BAD
-        return told(*self.box.deliver(sender[0], bytes.fromhex(text.decode()) if text != b"-" else b"", self.lent))
+    def quit(self):
+        self.ended = True
+        return ""
+
+    def help(self, *numbers):
+        """What can be typed, or what an answer number means."""
+        typed, of_number = helps()
+        return of_number[numbers[0]] if numbers else typed
+
+    def read(self, text):
+        """What a message says, whatever the box."""
+        return message_says(text) + "\n"
+
+    def points(self, at):
+        """A line a box: silent, or its marks and the four numbers of its point."""
+        if not self.box.n:
+            return "no box\n"
+        if at >= len(self.box.places):
+            return "no place\n"
+        place = self.box.places[at]
+        return "".join(f"{m} {point_says(place, m)}\n" for m in self.box.others())
 
     def show(self):
-        """The box, a line for each place in use, completion, kept shares, recovered pair."""
-        box = self.box
-        if not box.n:
-            return "no box\n"
-        lines = [f"box {box.i} group {box.group_number} n {box.n} t {box.t} k {box.k}"
-                 f" dealer {box.d} session {box.session}"]
-        for at, place in enumerate(box.places):
-            lines.append(f"place {at} e {place.e} r {place.r} matrix {listed(sum(place.matrix, ()))}")
-        if box.completed is None:
-            lines.append("not completed")
-        else:
-            lines.append(f"completed place {box.places.index(box.completed)} share {listed(box.completed.pair)}")
-        lines.append(f"kept {listed(sorted(box.kept)) or 'none'}")
-        lines.append("not recovered" if box.recovered is None else f"recovered {listed(box.recovered)}")
-        return "".join(line + "\n" for line in lines)
+        """What the box holds."""
+        return "".join(line + "\n" for line in shown(self.box)) if self.box.n else "no box\n"
+
+
+# What is printed
 
 
 def told(answer, messages):
@@ -615,3 +707,49 @@ def told(answer, messages):
 
 def listed(numbers):
     return " ".join(map(str, numbers))
+
+
+def message_says(text):
+    """The tag, the header and each number behind its name; bytes that refusal 2 would refuse at every k say nothing."""
+    k = next((k for k in range(2, 9) if well_formed(text, k)), None)
+    if k is None:
+        return "no message"
+    matrix, numbers = contents(text, k)
+    head = f"{WORDS[text[0]]} dealer {text[3]} session {int.from_bytes(text[4:6], 'big')}"
+    if text[0] == SHARE:
+        return f"{head} share {listed(numbers)}"
+    names = ("a", "a'", "b", "b'") if text[0] == SEND else ("alpha", "beta")
+    each = len(numbers) // len(names)
+    named = [f"{name} {listed(numbers[at * each:at * each + each])}" for at, name in enumerate(names)]
+    return " ".join([head, f"k {k} matrix {listed(sum(matrix, ()))}", *named])
+
+
+def point_says(place, m):
+    """Silence is a word of its own."""
+    if place.points[m] is None:
+        return "silent"
+    marks = [WORDS[tag] for tag in (ECHO, READY) if m in place.marked[tag]]
+    return " ".join([*marks, listed(place.points[m])])
+
+
+def shown(box):
+    """The lines of a box: set-up, dealt, heard, the places in use, completion, command, kept shares, recovered pair."""
+    yield (f"box {box.i} group {box.group_number} n {box.n} t {box.t} k {box.k}"
+           f" dealer {box.d} session {box.session}")
+    if box.i == box.d:
+        yield "dealt" if box.dealt else "not dealt"
+    yield " ".join(["heard", *(f"{word} {boxes(box.heard[tag])}" for tag, word in WORDS.items())])
+    for at, place in enumerate(box.places):
+        yield f"place {at} e {place.e} r {place.r} matrix {listed(sum(place.matrix, ()))}"
+    if box.completed is None:
+        yield "not completed"
+    else:
+        yield f"completed place {box.places.index(box.completed)} share {listed(box.completed.pair)}"
+    yield "commanded" if box.commanded else "not commanded"
+    yield f"kept {boxes(box.kept)}"
+    yield "not recovered" if box.recovered is None else f"recovered {listed(box.recovered)}"
+
+
+def boxes(numbers):
+    """Rising, or none."""
+    return listed(sorted(numbers)) or "none"

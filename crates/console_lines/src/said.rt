@@ -1,36 +1,77 @@
-// What a line says. A line is handed over with its newline, the last of its bytes and the only one.
+// What a line says. A line is handed over without its newline; it has room for 4,096 coins and bytes at most.
+use crate::judging::Judged;
+use crate::reasons::Reason;
+use crate::words::Word;
 use rules::SetUp;
 ghost use mathlib.Core.Path.{_≡_};
-ghost use mathlib.Core.Bool.{true};
 ghost use Prim.Native.Nat.{_≤_};
 ghost use lib.ListN.{length};
-ghost use Rattle.rules.specs.Text.{numbersAt};
-ghost use Rattle.console_lines.specs.Lines.{Standing};
+ghost use lib.Seq.{sets};
+ghost use Rattle.console_lines.specs.declared.words.Word.the-variants as word;
+ghost use Rattle.console_lines.specs.Says.{
+  numberOf,
+  setUpOf,
+  coinsIn,
+  byteCount,
+  bytesIn,
+  commandOf,
+  coinsOf,
+  bytesOf,
+};
+ghost use Rattle.console_lines.specs.Reading.{Short, HexItem, Dealt, Taken, Lent, Answers, Speaks};
 
-// A deal has a secret and so many coins, a delivery a sender and so many bytes; they stand in the space that was lent.
+// A deal has a secret and so many coins, a delivery a sender and so many bytes, and so has `read`; they stand in the space that
+// was lent.
 pub enum Said {
+    Nothing,
+    Quit,
+    Help,
+    HelpOf(usize),
     SetUp(SetUp),
     Lend(usize),
     Deal { secret: u32, coins: usize },
     Deliver { sender: u32, bytes: usize },
     Recover,
     Show,
-    Help,
-    Bad,
+    Read(usize),
+    Points(usize),
+    Bad(Reason),
+}
+
+// The number that item j says.
+fn number_of(line: &[u8], j: usize) -> u16
+    requires { ⌜ Short (now line) j ⌝ }
+    ensures { λ r. ⌜ r ≡ numberOf (now (line .entry)) j ⌝ }
+{
+    let place = crate::items::item_place(line, j);
+    let x = text::read::decimal_at(line, place);
+    x.number
+}
+
+// The bytes that item j says, at the front of the space, and how many.
+fn read_bytes(line: &[u8], j: usize, bytes: &mut [u8]) -> usize
+    requires { ⌜ HexItem (now line) j (now bytes) ⌝ }
+    ensures { λ r. ⌜ (r ≡ byteCount (now (line .entry)) j) × (now (bytes .exit) ≡ sets (now (bytes .entry)) 0 (bytesIn (now (line .entry)) j)) ⌝ }
+{
+    let from = crate::items::item_place(line, j);
+    let n = (crate::items::item_end(line, from) - from) / 2;
+    text::hexadecimal::read_hex(line, from, n, bytes);
+    n
 }
 
 // ---- setup G N T K I D S
 
-fn numbers_of(line: &[u8]) -> SetUp
-    requires { ⌜ numbersAt (now line) 6 7 ≡ true ⌝ }
+fn set_up(line: &[u8]) -> SetUp
+    requires { ⌜ length (now line) ≤ 8192 ⌝ }
+    ensures { λ r. ⌜ r ≡ setUpOf (now (line .entry)) ⌝ }
 {
-    let group = text::read::number_at(line, 6, 7, 0);
-    let n = text::read::number_at(line, 6, 7, 1);
-    let t = text::read::number_at(line, 6, 7, 2);
-    let k = text::read::number_at(line, 6, 7, 3);
-    let i = text::read::number_at(line, 6, 7, 4);
-    let d = text::read::number_at(line, 6, 7, 5);
-    let session = text::read::number_at(line, 6, 7, 6);
+    let group = number_of(line, 1);
+    let n = number_of(line, 2);
+    let t = number_of(line, 3);
+    let k = number_of(line, 4);
+    let i = number_of(line, 5);
+    let d = number_of(line, 6);
+    let session = number_of(line, 7);
     SetUp {
         group: group as u32,
         n: n as u32,
@@ -42,155 +83,86 @@ fn numbers_of(line: &[u8]) -> SetUp
     }
 }
 
-fn set_up(line: &[u8]) -> Said
-    ensures { λ r. ⌜ Standing r ⌝ }
-{
-    if !text::read::numbers_at(line, 6, 7) {
-        return Said::Bad;
-    }
-    Said::SetUp(numbers_of(line))
-}
-
-// ---- lend L
-
-fn lend(line: &[u8]) -> Said
-    ensures { λ r. ⌜ Standing r ⌝ }
-{
-    if !text::read::numbers_at(line, 5, 1) {
-        return Said::Bad;
-    }
-    let lent = text::read::number_at(line, 5, 1, 0);
-    if 4096 < lent {
-        return Said::Bad;
-    }
-    Said::Lend(lent as usize)
-}
-
 // ---- deal SECRET COIN COIN ..
 
-fn count_spaces(line: &[u8]) -> usize {
-    let mut spaces: usize = 0;
-    let mut i: usize = 0;
-    while i < line.len() {
-        if line[i] == b' ' {
-            spaces += 1;
-        }
-        i += 1;
-    }
-    spaces
-}
-
-// The numbers behind the first of m.
+// The m numbers behind the secret.
 fn read_coins(line: &[u8], m: usize, coins: &mut [u16])
-    requires { ⌜ (numbersAt (now line) 5 m ≡ true) × (m ≤ length (now coins)) ⌝ }
+    requires { ⌜ (length (now line) ≤ 8192) × (m ≤ 4096) × (length (now coins) ≡ 4096) ⌝ }
+    ensures { λ _. ⌜ now (coins .exit) ≡ sets (now (coins .entry)) 0 (coinsIn (now (line .entry)) m) ⌝ }
 {
-    let mut j: usize = 1;
+    let mut place = crate::items::item_place(line, 2);
+    let mut j: usize = 0;
     while j < m {
-        coins[j - 1] = text::read::number_at(line, 5, m, j);
+        let x = text::read::decimal_at(line, place);
+        coins[j] = x.number;
+        place = crate::items::item_end(line, place) + 1;
         j += 1;
     }
 }
 
-// As many numbers as spaces; a line has no room for 4,097.
 fn deal(line: &[u8], coins: &mut [u16]) -> Said
-    requires { ⌜ length (now coins) ≡ 4096 ⌝ }
-    ensures { λ r. ⌜ Standing r ⌝ }
+    requires { ⌜ Dealt (now line) (now coins) ⌝ }
+    ensures { λ r. ⌜ (r ≡ commandOf (now (line .entry)) word.Deal) × (now (coins .exit) ≡ sets (now (coins .entry)) 0 (coinsOf (now (line .entry)) word.Deal)) ⌝ }
 {
-    let m = count_spaces(line);
-    if m == 0 {
-        return Said::Bad;
-    }
-    if 4096 < m {
-        return Said::Bad;
-    }
-    if !text::read::numbers_at(line, 5, m) {
-        return Said::Bad;
-    }
-    let secret = text::read::number_at(line, 5, m, 0) as u32;
+    let secret = number_of(line, 1) as u32;
+    let m = crate::items::count_items(line) - 1;
     read_coins(line, m, coins);
-    Said::Deal {
-        secret,
-        coins: m - 1,
-    }
+    Said::Deal { secret, coins: m }
 }
 
-// ---- deliver SENDER HEX
+// ---- help, help N
 
-// The rest of the line is digits, or - for none; it has no room for 4,097 bytes.
-fn deliver_hex(sender: u32, line: &[u8], at: usize, bytes: &mut [u8]) -> Said
-    requires { ⌜ length (now bytes) ≡ 4096 ⌝ }
-    ensures { λ r. ⌜ Standing r ⌝ }
+fn help(line: &[u8]) -> Said
+    requires { ⌜ length (now line) ≤ 8192 ⌝ }
+    ensures { λ r. ⌜ r ≡ commandOf (now (line .entry)) word.Help ⌝ }
 {
-    if line.len() <= at {
-        return Said::Bad;
+    let m = crate::items::count_items(line);
+    if m == 0 {
+        return Said::Help;
     }
-    let digits = line.len() - at - 1;
-    if digits == 0 || digits % 2 == 1 {
-        return Said::Bad;
-    }
-    let n = digits / 2;
-    if 4096 < n {
-        return Said::Bad;
-    }
-    if !text::hexadecimal::hex_at(line, at, n) {
-        return Said::Bad;
-    }
-    text::hexadecimal::read_hex(line, at, n, bytes);
-    Said::Deliver { sender, bytes: n }
-}
-
-fn deliver(line: &[u8], bytes: &mut [u8]) -> Said
-    requires { ⌜ length (now bytes) ≡ 4096 ⌝ }
-    ensures { λ r. ⌜ Standing r ⌝ }
-{
-    let sender = text::read::decimal_at(line, 8);
-    let end = sender.end;
-    if !sender.stands {
-        return Said::Bad;
-    }
-    if line.len() <= end {
-        return Said::Bad;
-    }
-    if line[end] != b' ' {
-        return Said::Bad;
-    }
-    let at = end + 1;
-    if text::read::word_at(line, at, b"-\n") {
-        return Said::Deliver {
-            sender: sender.number as u32,
-            bytes: 0,
-        };
-    }
-    deliver_hex(sender.number as u32, line, at, bytes)
+    Said::HelpOf(number_of(line, 1) as usize)
 }
 
 // ---- a line
 
-// With room for 4,096 coins and bytes.
-pub fn read(line: &[u8], coins: &mut [u16], bytes: &mut [u8]) -> Said
-    requires { ⌜ (length (now coins) ≡ 4096) × (length (now bytes) ≡ 4096) ⌝ }
-    ensures { λ r. ⌜ Standing r ⌝ }
+// A line that is taken, by its word.
+fn command(line: &[u8], word: Word, coins: &mut [u16], bytes: &mut [u8]) -> Said
+    requires { ⌜ Taken (now line) word (now coins) (now bytes) ⌝ }
+    ensures { λ r. ⌜
+        Answers (commandOf (now (line .entry)) word) (coinsOf (now (line .entry)) word) (bytesOf (now (line .entry)) word)
+        r (now (coins .entry)) (now (coins .exit)) (now (bytes .entry)) (now (bytes .exit))
+        ⌝ }
 {
-    if text::read::word_at(line, 0, b"setup ") {
-        return set_up(line);
+    match word {
+        Word::SetUp => Said::SetUp(set_up(line)),
+        Word::Lend => Said::Lend(number_of(line, 1) as usize),
+        Word::Deal => deal(line, coins),
+        Word::Deliver => {
+            let sender = number_of(line, 1) as u32;
+            let n = read_bytes(line, 2, bytes);
+            Said::Deliver { sender, bytes: n }
+        }
+        Word::Recover => Said::Recover,
+        Word::Show => Said::Show,
+        Word::Help => help(line),
+        Word::Read => Said::Read(read_bytes(line, 1, bytes)),
+        Word::Points => Said::Points(number_of(line, 1) as usize),
+        Word::Quit => Said::Quit,
+        Word::Unknown => Said::Bad(Reason::NoSuchWord),
     }
-    if text::read::word_at(line, 0, b"lend ") {
-        return lend(line);
+}
+
+// What it says, its coins and its bytes at the front of the space that was lent for them.
+pub fn read(line: &[u8], coins: &mut [u16], bytes: &mut [u8]) -> Said
+    requires { ⌜ Lent (now line) (now coins) (now bytes) ⌝ }
+    ensures { λ r. ⌜
+        Speaks (now (line .entry)) r (now (coins .entry)) (now (coins .exit)) (now (bytes .entry)) (now (bytes .exit))
+        ⌝ }
+{
+    let judged = crate::judging::judge(line);
+    match judged {
+        Judged::Quiet => Said::Nothing,
+        Judged::Bad(reason) => Said::Bad(reason),
+        Judged::Takes(word) => command(line, word, coins, bytes),
     }
-    if text::read::word_at(line, 0, b"deal ") {
-        return deal(line, coins);
-    }
-    if text::read::word_at(line, 0, b"deliver ") {
-        return deliver(line, bytes);
-    }
-    if text::read::word_at(line, 0, b"recover\n") {
-        return Said::Recover;
-    }
-    if text::read::word_at(line, 0, b"show\n") {
-        return Said::Show;
-    }
-    if text::read::word_at(line, 0, b"help\n") {
-        return Said::Help;
-    }
-    Said::Bad
 }

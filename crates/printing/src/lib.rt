@@ -1,4 +1,4 @@
-// What the console, the hand sums and the class programs print: words and numbers, the line of an answer, and messages in hexadecimal.
+// What the test programs print: words and numbers, the line of an answer, and messages in hexadecimal.
 // What a box holds is in `showing`.
 pub mod showing;
 
@@ -8,9 +8,11 @@ use rules::Pair;
 use rules::Sent;
 ghost use Prim.Native.Nat.{_≤_};
 
-// On standard output.
+// On standard output; a program that cannot write says so, each time that it tries.
 pub fn words(text: &[u8]) {
-    io::write_all(1, text);
+    if !io::write_all(1, text) {
+        io::write_all(2, b"standard output cannot be written\n");
+    }
 }
 
 // Of five digits at most, as every number is that a box tells.

@@ -1,28 +1,21 @@
--- `main` ends: the turns that are left fall. A whole line stands in its buffer. Assumes nothing.
+-- `main` ends: the turns that are left fall. What is held, and what is on the page, stand in their buffers. Assumes nothing.
+use borrow.Author.Needs.{needs}
 use mathlib.Core.Path.{_≡_}
 use lib.ListN.{length}
-use borrow.Author.Needs.{needs}
-use Rattle.folds.specs.Found.{found3, found6, found8}
+use Rattle.console_lines.specs.Lines.{Within}
 use Rattle.console.proofs.main.Statement.{statement}
 use Rattle.console.proofs.main.Tie as tie
 
 abbrev Inv-loop : tie.InvT-loop
-Inv-loop space₀ bench₀ turns₀ space bench turns = length space ≡ 8192
+Inv-loop space₀ page₀ bench₀ held₀ turns₀ space page bench held turns =
+    (length space ≡ 8192) × (length page ≡ 16384) × Within space (held .from) (held .to)
 
 abbrev μ-loop : tie.MeasureT-loop
-μ-loop space₀ bench₀ turns₀ space bench turns = turns
-
-line-stands : tie.Need-part-answer-end Inv-loop μ-loop
-line-stands c =
-    let within = rw (c .before .before .got .given .1) at (c .before .before .before .before .before .read-line .ensures) in
-    search needs
+μ-loop space₀ page₀ bench₀ held₀ turns₀ space page bench held turns = turns
 
 pub main-spec : {M : Type 1} → statement M
 main-spec =
     tie.close
-    (found6
-    (found3
-    (found8 (tie.spec Inv-loop μ-loop) (search needs) line-stands (search needs) (λ c. search needs) (λ c. search needs))
-    (search needs)
-    (λ c. search needs))
-    (search needs))
+    (tie.spec
+    Inv-loop
+    μ-loop (λ c κs. search needs) (λ c. search needs) (λ c. search needs) (λ c. search needs) (λ c κs. search needs) (λ c. search needs) (λ c. search needs) (λ c κs. search needs) (λ c. search needs) (λ c. search needs) (λ c. search needs) (λ c κs. search needs) (λ c. search needs) (λ c. search needs) (λ c. search needs) (λ c. search needs) (λ c. search needs))

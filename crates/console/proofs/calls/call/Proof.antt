@@ -1,20 +1,19 @@
--- `call` is safe: the coins and the bytes that a line says stand in their buffers. Assumes nothing.
+-- `call` keeps the page: the coins and the bytes that a line says stand in their buffers. Assumes nothing.
 use borrow.Author.Needs.{needs}
-use Rattle.folds.specs.Found.{found6, found8, found9, found10}
 use Rattle.console.proofs.calls.call.Statement.{statement}
 use Rattle.console.proofs.calls.call.Tie as tie
 
-deal-fits : tie.Need-part-deal-end
-deal-fits c =
-    let fits = rw (c .before .said2 .given .1) at (c .before .before .before .before .before .before .pre .standing) in search needs
+part-deal-end : tie.Need-part-deal-end
+part-deal-end c =
+    let fits = rw (c .before .said2 .given .1) at (c .before .before .before .before .before .before .before .pre .1 .fits) in search needs
 
-deliver-fits : tie.Need-part-deliver-end
-deliver-fits c =
-    let fits = rw (c .before .said3 .given .1) at (c .before .before .before .before .before .before .pre .standing) in search needs
+part-deliver-end : tie.Need-part-deliver-end
+part-deliver-end c =
+    let fits = rw (c .before .said3 .given .1) at (c .before .before .before .before .before .before .before .pre .1 .fits) in search needs
 
 pub call-spec : {M : Type 1} → statement M
 call-spec =
     tie.close
-    (found9
-    (found10 (found6 (found8 tie.spec (search needs) deal-fits) (search needs) deliver-fits) (search needs))
-    (search needs))
+    (tie.spec (λ c. search needs) (λ c κs. search needs) (λ c. search needs) (λ c κs. search needs) (λ c. search needs) (λ c. search needs) (λ c. search needs) (λ c. search needs) (λ c. search needs)
+    part-deal-end (λ c κs. search needs) (λ c. search needs) (λ c. search needs) (λ c. search needs) (λ c. search needs) (λ c. search needs) (λ c. search needs)
+    part-deliver-end (λ c κs. search needs) (λ c. search needs) (λ c. search needs) (λ c. search needs) (λ c. search needs) (λ c κs. search needs) (λ c. search needs) (λ c. search needs) (λ c. search needs) (λ c. search needs) (λ c κs. search needs) (λ c. search needs) (λ c. search needs) (λ c. search needs) (λ c. search needs) (λ c κs. search needs) (λ c. search needs) (λ c. search needs))
