@@ -12,11 +12,11 @@ from pathlib import Path
 
 ROOT = Path(__file__).resolve().parent.parent
 WORD = re.compile(r"[^\s(){}\[\],;.:\"`⌜⌝∣]+")
-SIGNATURE = re.compile(r"^(?:  )?(?:(?:pub|abbrev|unfoldable) )*([^\s(){}\[\],;\":]+) :(?: |$)")
+SIGNATURE = re.compile(r"^ *(?:(?:pub|abbrev|unfoldable) )*([^\s(){}\[\],;\":]+) :(?: |$)")
 TYPE = re.compile(r"^(?:abbrev |unfoldable )?(?:pub )?(?:record|data|ruleset) ([^\s(){}]+)")
 USED = re.compile(r"use ([A-Za-z][\w.]*)\.\{([^}]*)\}")
-ALIAS = re.compile(r"use (Rattle\.\w+\.(?:specs\.(?!declared|contracts)|proofs\.[A-Z])[\w.]*) as ([^\s;]+)")
-STAYS = re.compile(r'"(?:[^"\\\n]|\\.)*"|\buse [A-Za-z][\w.+]*')
+ALIAS = re.compile(r"use Rattle\.\w+\.(?:specs\.(?!declared|contracts)|proofs\.[A-Z])(?:[\w.]*\.)?(\w+)(?: as ([^\s;]+))?(?=[\s;]|$)")
+STAYS = re.compile(r'"(?:[^"\\\n]|\\.)*"|(?<![\w'-])use [A-Za-z][\w.+]*')
 FIELD = re.compile(r"^  (?:pub )?([^\s(){}\[\],;\":]+) : ")
 # what std calls its own words, for the dash of a name that joins two
 STD = "length set sets take drop get_or map sum append add mul sub mod pow div suc zero replicate gather get fold".split()
@@ -104,7 +104,7 @@ def renames():
 def turned(text, new, fields):
     """The path of an import stays. Behind a dot only a field of ours is turned, or a name of a module of ours: the rest are names that the
     prover makes."""
-    aliases = {m.group(2) for m in ALIAS.finditer(text)}
+    aliases = {m.group(2) or m.group(1) for m in ALIAS.finditer(text)}
 
     def word(m):
         whole, at = m.string, m.start()

@@ -101,28 +101,28 @@ module _ (p g h : ℕ) where
 
   module _ (q : ℕ) (og : g ^ q % p ≡ 1) (oh : h ^ q % p ≡ 1) where
     -- Exponents with one remainder modulo q give one commitment.
-    pub commit-same : (s t u v : ℕ) → s % q ≡ u % q → t % q ≡ v % q → (g ^ s * h ^ t) % p ≡ (g ^ u * h ^ v) % p
-    commit-same s t u v d e = mul_cong p _ _ _ _ (pow-same q p g og s u d) (pow-same q p h oh t v e)
+    pub commit_same : (s t u v : ℕ) → s % q ≡ u % q → t % q ≡ v % q → (g ^ s * h ^ t) % p ≡ (g ^ u * h ^ v) % p
+    commit_same s t u v d e = mul_cong p _ _ _ _ (pow-same q p g og s u d) (pow-same q p h oh t v e)
 
     -- The remainders of the exponents go.
-    pub commit-mod : (s t : ℕ) → (g ^ (s % q) * h ^ (t % q)) % p ≡ (g ^ s * h ^ t) % p
-    commit-mod s t = commit-same (s % q) (t % q) s t (mod-mod s q) (mod-mod t q)
+    pub commit_mod : (s t : ℕ) → (g ^ (s % q) * h ^ (t % q)) % p ≡ (g ^ s * h ^ t) % p
+    commit_mod s t = commit_same (s % q) (t % q) s t (mod-mod s q) (mod-mod t q)
 
     -- A commitment has q-th power 1.
-    pub commit-member : (s t : ℕ) → ((g ^ s * h ^ t) % p) ^ q % p ≡ 1
-    commit-member s t = member_mod q p _ (member_mul q p (g ^ s) (member_pow q p g og s) (h ^ t) (member_pow q p h oh t))
+    pub commit_member : (s t : ℕ) → ((g ^ s * h ^ t) % p) ^ q % p ≡ 1
+    commit_member s t = member_mod q p _ (member_mul q p (g ^ s) (member_pow q p g og s) (h ^ t) (member_pow q p h oh t))
 
     -- The product of powers of a vector of commitments, with exponents modulo q.
-    pub commit-vector-mod : (k : ℕ) (a c s t : ℕ → ℕ) → ((j : ℕ) → j < k → c j % p ≡ (g ^ s j * h ^ t j) % p)
+    pub commit_vector_mod : (k : ℕ) (a c s t : ℕ → ℕ) → ((j : ℕ) → j < k → c j % p ≡ (g ^ s j * h ^ t j) % p)
         → prod_below k (λ j. c j ^ a j) % p ≡ (g ^ (sum_below k (λ j. s j * a j) % q) * h ^ (sum_below k (λ j. t j * a j) % q)) % p
-    commit-vector-mod k a c s t e = commit_vector k a c s t e ∙ sym (commit-mod _ _)
+    commit_vector_mod k a c s t e = commit_vector k a c s t e ∙ sym (commit_mod _ _)
 
     -- The product of powers of a matrix of commitments, with exponents modulo q.
-    pub commit-matrix-mod : (k n : ℕ) (a b : ℕ → ℕ) (C S T : ℕ → ℕ → ℕ)
+    pub commit_matrix_mod : (k n : ℕ) (a b : ℕ → ℕ) (C S T : ℕ → ℕ → ℕ)
         → ((j l : ℕ) → j < k → l < n → C j l % p ≡ (g ^ S j l * h ^ T j l) % p)
         → prod_below k (λ j. prod_below n (λ l. C j l ^ (a j * b l))) % p
         ≡ (g ^ (sum_below k (λ j. sum_below n (λ l. S j l * (a j * b l))) % q) * h ^ (sum_below k (λ j. sum_below n (λ l. T j l * (a j * b l))) % q)) % p
-    commit-matrix-mod k n a b C S T e = commit_matrix k n a b C S T e ∙ sym (commit-mod _ _)
+    commit_matrix_mod k n a b C S T e = commit_matrix k n a b C S T e ∙ sym (commit_mod _ _)
 
 -- With h the w-th power of g, a commitment is a power of g.
 pub commit_base : (p g h w : ℕ) → h % p ≡ g ^ w % p → (s t : ℕ) → (g ^ s * h ^ t) % p ≡ g ^ (s + w * t) % p

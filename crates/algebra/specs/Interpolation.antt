@@ -176,9 +176,9 @@ module _ (q : ℕ) (P : Prime q) (k : ℕ) (xs : ℕ → ℕ) (A : Places q k xs
 
   module _ (ys : ℕ → ℕ) where
     -- The interpolation goes through its points.
-    pub interpolate-at : (j : ℕ) → j < k → interpolate q k xs ys (xs j) ≡ ys j % q
+    pub interpolate_at : (j : ℕ) → j < k → interpolate q k xs ys (xs j) ≡ ys j % q
     unfolding interpolate
-    interpolate-at j l =
+    interpolate_at j l =
         let o = others q k xs j (xs j) in
         let some : o ≢ 0 = others_some j l in
         let one : (o * inverse q o) % q ≡ 1 = inverse_right q P o (omega arith) (others_below j (xs j)) in
@@ -187,24 +187,24 @@ module _ (q : ℕ) (P : Prime q) (k : ℕ) (xs : ℕ → ℕ) (A : Places q k xs
         ∙ one-mul-mod q (o * inverse q o) (ys j) one
 
     -- The interpolation of the values of a polynomial with at most k coefficients is that polynomial.
-    pub interpolate-polynomial : (cs : List ℕ) → length cs ≤ k → ((i : ℕ) → i < k → ys i % q ≡ value cs (xs i) % q)
+    pub interpolate_polynomial : (cs : List ℕ) → length cs ≤ k → ((i : ℕ) → i < k → ys i % q ≡ value cs (xs i) % q)
         → (x : ℕ) → interpolate q k xs ys x ≡ value cs x % q
-    interpolate-polynomial cs l h x =
+    interpolate_polynomial cs l h x =
         let t = through_terms q k xs ys in
         sym (interpolate_terms q k xs ys x)
-        ∙ agree q P k xs A t.coeffs cs t.size l (λ i m. interpolate_terms q k xs ys (xs i) ∙ interpolate-at i m ∙ h i m) x
+        ∙ agree q P k xs A t.coeffs cs t.size l (λ i m. interpolate_terms q k xs ys (xs i) ∙ interpolate_at i m ∙ h i m) x
 
     -- The same, with the polynomial given by c 0, .. c (k - 1).
     pub interpolate-sum : (c : ℕ → ℕ) → ((i : ℕ) → i < k → ys i % q ≡ sum_below k (λ j. c j * xs i ^ j) % q)
         → (x : ℕ) → interpolate q k xs ys x ≡ sum_below k (λ j. c j * x ^ j) % q
     interpolate-sum c h x =
-        interpolate-polynomial (coefficients k c) (omega (arith, length-coefficients k c))
+        interpolate_polynomial (coefficients k c) (omega (arith, length-coefficients k c))
         (λ i l. h i l ∙ ap (λ t. t % q) (sym (value-sum k c (xs i)))) x
         ∙ ap (λ t. t % q) (value-sum k c x)
 
   -- It gives a polynomial with at most k coefficients back from its values.
   pub interpolate_value : (cs : List ℕ) → length cs ≤ k → (x : ℕ) → interpolate q k xs (λ i. value cs (xs i) % q) x ≡ value cs x % q
-  interpolate_value cs l = interpolate-polynomial (λ i. value cs (xs i) % q) cs l (λ i h. mod-mod (value cs (xs i)) q)
+  interpolate_value cs l = interpolate_polynomial (λ i. value cs (xs i) % q) cs l (λ i h. mod-mod (value cs (xs i)) q)
 
   -- The interpolation of the j-th powers of the places is the j-th power, for j below k.
   pub interpolate_power : (j : ℕ) → j < k → (x : ℕ) → interpolate q k xs (λ i. xs i ^ j) x ≡ x ^ j % q
@@ -256,7 +256,7 @@ through q P k xs A ys =
       coeffs = coefficients k c;
       size = length-coefficients k c;
       below = λ j l. subst (λ (n : ℕ). n < q) (sym (get_or-coefficients k c j l)) (mod-lt _ (le_of_lt P.big));
-      meets = λ i l. all (xs i) ∙ interpolate-at q P k xs A ys i l;
+      meets = λ i l. all (xs i) ∙ interpolate_at q P k xs A ys i l;
       everywhere = all;
     }
 

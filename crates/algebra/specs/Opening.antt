@@ -13,7 +13,7 @@ use Rattle.algebra.specs.Powers.{pow-mul, pow-one, order_exact}
 use Rattle.algebra.specs.Sums.{prod_one, prod_pow, prod_swap, prod_first, pow-sum}
 use Rattle.algebra.specs.Polynomials.{Places}
 use Rattle.algebra.specs.Interpolation.{interpolate, weight, interpolate_power}
-use Rattle.algebra.specs.Commitments.{prod_same, commit_vector, commit-same, commit_base}
+use Rattle.algebra.specs.Commitments.{prod_same, commit_vector, commit_same, commit_base}
 
 -- products over j, each to a power w i and multiplied: the exponents of each c j add up
 collect : (k n : ℕ) (w c : ℕ → ℕ) (e : ℕ → ℕ → ℕ)
@@ -48,18 +48,18 @@ module _ (q p : ℕ) (P : Prime q) (g h : ℕ) (og : g ^ q % p ≡ 1) (oh : h ^ 
     (fits : (i : ℕ) → i < k → (g ^ s i * h ^ t i) % p ≡ prod_below k (λ j. c j ^ (m i ^ j)) % p)
   where
     -- k shares that fit the commitments c 0, .. c (k - 1) open what these give at any x.
-    pub shares-open-at : (x : ℕ) → (g ^ interpolate q k m s x * h ^ interpolate q k m t x) % p ≡ prod_below k (λ j. c j ^ (x ^ j)) % p
+    pub shares_open_at : (x : ℕ) → (g ^ interpolate q k m s x * h ^ interpolate q k m t x) % p ≡ prod_below k (λ j. c j ^ (x ^ j)) % p
     unfolding interpolate
-    shares-open-at x =
+    shares_open_at x =
         let w = weight q k m x in
-        commit-same p g h q og oh _ _ _ _ (weighted q k m s x) (weighted q k m t x)
+        commit_same p g h q og oh _ _ _ _ (weighted q k m s x) (weighted q k m t x)
         ∙ sym (commit_vector p g h k w (λ i. prod_below k (λ j. c j ^ (m i ^ j))) s t (λ i l. sym (fits i l)))
         ∙ ap (λ u. u % p) (collect k k w c (λ i j. m i ^ j))
         ∙ prod_same q p k c oc (λ j. sum_below k (λ i. w i * m i ^ j)) (λ j. x ^ j) (λ j l. interpolate_power q P k m A j l x)
 
     -- k shares that fit the commitments c 0, .. c (k - 1) open c 0.
     pub shares_open : 0 < k → (g ^ interpolate q k m s 0 * h ^ interpolate q k m t 0) % p ≡ c 0 % p
-    shares_open l = shares-open-at 0 ∙ ap (λ t. t % p) (at_zero k c l)
+    shares_open l = shares_open_at 0 ∙ ap (λ t. t % p) (at_zero k c l)
 
 -- ---- two openings
 

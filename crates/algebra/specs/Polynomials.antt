@@ -283,8 +283,8 @@ module _ (q : ℕ) (P : Prime q) where
           (λ i l. ap (λ t. t % q) (value_plus (q - 1) cs ds (xs i)) ∙ zero-difference q (le_of_lt P.big) _ _ (e i l))
 
       -- Two polynomials that agree modulo a prime at as many places as they have coefficients have one remainder at each.
-      pub agree-coefficients : (j : ℕ) → get_or cs j 0 % q ≡ get_or ds j 0 % q
-      agree-coefficients j =
+      pub agree_coefficients : (j : ℕ) → get_or cs j 0 % q ≡ get_or ds j 0 % q
+      agree_coefficients j =
           difference-zero q (le_of_lt P.big) _ _ (ap (λ t. t % q) (sym (get_or_plus (q - 1) cs ds j)) ∙ difference_zeros j)
 
       -- And they agree everywhere.
@@ -300,4 +300,4 @@ module _ (q : ℕ) (P : Prime q) where
           ext_get_or 0 cs ds (c ∙ sym d)
           (λ j l.
           let m : j < k = omega arith in
-          sym (mod-eq_of_lt (bc j m)) ∙ agree-coefficients j ∙ mod-eq_of_lt (bd j m))
+          sym (mod-eq_of_lt (bc j m)) ∙ agree_coefficients j ∙ mod-eq_of_lt (bd j m))

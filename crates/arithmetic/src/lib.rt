@@ -1,5 +1,7 @@
 // Sums modulo q and products modulo p. An exponent and an element are two types: a function that wants the one does not
 // take the other. Every function asks for a modulus above 0; ranges beyond that are said where they are needed.
+#![tactic(auto)]
+
 ghost use Rattle.std.specs.Prelude.{◌≡◌, ◌+◌, ◌-◌, ◌*◌, ◌%◌, ◌^◌, ◌<◌, ◌≤◌};
 ghost use Rattle.algebra.specs.Residues.{inverse};
 ghost use Rattle.rules.specs.Numbers.{exponent, element};

@@ -1,5 +1,7 @@
 // Rows 8 to 10 of the table, what a message says: the number of the first row that holds, 0 where none does. No function
 // changes anything.
+#![tactic(auto)]
+
 ghost use Rattle.std.specs.Prelude.{◌≡◌, true};
 ghost use Rattle.rules.specs.Messages.{message_in};
 ghost use Rattle.rules.specs.Record.{sound};

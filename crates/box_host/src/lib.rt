@@ -1,4 +1,6 @@
 // A host that holds the record of a box and lends it for a delivery.
+#![tactic(auto)]
+
 ghost use Rattle.rules.specs.Answers.{Delivers};
 
 use rules::{Outcome, Record};

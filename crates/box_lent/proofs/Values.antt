@@ -97,11 +97,11 @@ module _ {M : Type 1} {𝓤 : Ura M} (𝓛 : Logic 𝓤) where
   outcome_makes = LL.makes O.the_type O'.the_plain 𝓛
 
   module _ where
-    pub record-typed : (x : Record) (vs : List Val) → Is R.the_row x vs → Typed (record_ty ∷ []) vs
-    record-typed = (LL.lawful R.the_type R'.the_laws 𝓛).typed
+    pub record_typed : (x : Record) (vs : List Val) → Is R.the_row x vs → Typed (record_ty ∷ []) vs
+    record_typed = (LL.lawful R.the_type R'.the_laws 𝓛).typed
 
     pub answer_typed : (a : Answer) (vs : List Val) → Is N.the_row a vs → Typed (answer_ty ∷ []) vs
     answer_typed = (LL.lawful N.the_type N'.the_laws 𝓛).typed
 
-    pub outcome-typed : (o : Outcome) (vs : List Val) → Is O.the_row o vs → Typed (outcome_ty ∷ []) vs
-    outcome-typed = (LL.lawful O.the_type O'.the_laws 𝓛).typed
+    pub outcome_typed : (o : Outcome) (vs : List Val) → Is O.the_row o vs → Typed (outcome_ty ∷ []) vs
+    outcome_typed = (LL.lawful O.the_type O'.the_laws 𝓛).typed

@@ -1,4 +1,6 @@
 // A delivery over a lent record, which is changed where it stands. As every call of a box, it asks for nothing.
+#![tactic(auto)]
+
 ghost use Rattle.rules.specs.Answers.{DeliversLent};
 
 use rules::{Answer, Record};

@@ -1,5 +1,7 @@
 // The order of each call on a record: 15 and 12, then the rows of its own. The number of the first row that holds, 0 where none
 // does. No function changes anything.
+#![tactic(auto)]
+
 ghost use Rattle.std.specs.Prelude.{◌≡◌};
 ghost use Rattle.rules.specs.Answers.{first_of, call_rows, deal_rows, recover_rows, early_rows};
 

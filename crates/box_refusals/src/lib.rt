@@ -1,5 +1,7 @@
 // The rows of the table that a call has of its own, up to the hearing: the number of the first row that holds, 0 where none
 // does. No function changes anything.
+#![tactic(auto)]
+
 ghost use Rattle.std.specs.Prelude.{◌≡◌};
 ghost use Rattle.rules.specs.Answers.{first_of, set_up_rows, own_deal_rows, own_recover_rows, form_rows, turn_rows};
 ghost use Rattle.rules.specs.Laws.Numbers.{Ranges};

@@ -1,4 +1,6 @@
 // A step of a box as a value: what it leaves, sends and tells. It is accepted, or a call is refused, here and nowhere else.
+#![tactic(auto)]
+
 ghost use Rattle.std.specs.Prelude.{◌≡◌};
 ghost use Rattle.rules.specs.Answers.{no_pair, pair_told, refused};
 ghost use Rattle.box_step.specs.Told.{quietly, sends, told};
@@ -6,7 +8,7 @@ ghost use Rattle.box_step.specs.Told.{quietly, sends, told};
 use rules::{Answer, Exponent, Keep, Kept, Outcome, Pair, Record, Sent};
 
 // What is sent stands at the front of the lent buffer: here is how many bytes it takes.
-#[derive(Drop)]
+#[derive(Clone, Copy)]
 pub struct Step {
     pub after: Record,
     pub sent: Sent,

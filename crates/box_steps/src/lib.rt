@@ -1,5 +1,7 @@
 // What a checked message and a taken command make of the record, and what they send. The outgoing buffer has 2,048 bytes at
 // least, which is more than any step writes.
+#![tactic(auto)]
+
 ghost use Rattle.std.specs.Prelude.{◌≡◌, false, ◌-◌, ◌<◌, ◌≤◌, length};
 ghost use Rattle.rules.specs.Messages.{tag_in, has_matrix, message_in, side_tag};
 ghost use Rattle.rules.specs.Record.{heard_for};

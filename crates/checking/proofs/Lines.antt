@@ -15,7 +15,7 @@ use Rattle.rules.specs.Numbers.{element}
 use Rattle.rules.specs.Matrices.{row, entry}
 use Rattle.rules.specs.Dealing.{opens, along_column}
 use Rattle.rules.specs.Laws.Matrices.{row_at_lem}
-use Rattle.rules.specs.Laws.Checks.{entry-member}
+use Rattle.rules.specs.Laws.Checks.{entry_member}
 use Rattle.checking.specs.Equations.{Checkable, Line, element_at, along_line}
 
 -- a line made of f
@@ -33,16 +33,16 @@ module _ {G : Group} {k : ℕ} {C : List (List Element)} (h : Checkable G k C) w
   line_of_lem f m = line (line_of k f) (λ n l. ap (λ t. t ^ G.q % G.p) (at f n l) ∙ m n l)
 
   pub row_line : (j : ℕ) → j < k → Line G k (get_or C j [])
-  row_line j hj = line (get_or C j []) (λ l hl. entry-member G k C h.passes j l hj hl)
+  row_line j hj = line (get_or C j []) (λ l hl. entry_member G k C h.passes j l hj hl)
 
   -- column 0 is a line also where k is 0
   pub column_line : (l : ℕ) → (0 < k → l < k) → Line G k (line_of k (λ j. entry C j l))
-  column_line l hl = line_of_lem (λ j. entry C j l) (λ j hj. entry-member G k C h.passes j l hj (hl (omega arith)))
+  column_line l hl = line_of_lem (λ j. entry C j l) (λ j hj. entry_member G k C h.passes j l hj (hl (omega arith)))
 
   made_opens : (f : ℕ → ℕ) (x : ℕ) → along_line k (line_of k f) x ≡ prod_below k (λ j. f j ^ (x ^ j))
   made_opens f x = prod_below_same _ _ k (λ j hj. ap (λ t. t ^ (x ^ j)) (at f j hj))
 
   -- an equation over a column
   module _ {c : List Element} {r : Bool} (x u v : ℕ) (said : r ≡ opens G u v (along_line k c x % G.p)) where
-    pub column-opens : (l : ℕ) → c ≡ line_of k (λ j. entry C j l) → r ≡ opens G u v (along_column k C x l % G.p)
-    column-opens l e = said ∙ rw (e, made_opens (λ j. entry C j l) x)
+    pub column_opens : (l : ℕ) → c ≡ line_of k (λ j. entry C j l) → r ≡ opens G u v (along_column k C x l % G.p)
+    column_opens l e = said ∙ rw (e, made_opens (λ j. entry C j l) x)

@@ -1,5 +1,7 @@
 // Checking: refusal 8 (every entry is an element), refusal 9 (every exponent is below q), and the three checks. A check asks
 // that its matrix has passed refusal 8: then exponents may be reduced modulo q, and every power is of one below q.
+#![tactic(auto)]
+
 ghost use Rattle.std.specs.Prelude.{◌≡◌, ◌+◌, ◌%◌, ◌≤◌, ◌<◌};
 ghost use Rattle.folds.specs.Below.{all_below};
 ghost use Rattle.rules.specs.Numbers.{element};

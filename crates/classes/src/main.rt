@@ -1,4 +1,6 @@
 // Four classes to their end, each under its heading: every answer, and what the boxes hold then.
+#![tactic(auto)]
+
 mod by_hand;
 mod coins;
 mod moves;

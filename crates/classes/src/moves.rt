@@ -12,7 +12,7 @@ use printing::{numbered, words};
 use rules::Answer;
 
 // By this letter, from one box to another; box 1 stands at 0. Letter 0 is no move.
-#[derive(Drop)]
+#[derive(Clone, Copy)]
 pub struct Move {
     pub letter: u8,
     pub from: u8,

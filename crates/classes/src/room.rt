@@ -6,13 +6,13 @@ use crate::moves::Move;
 use rules::{Answer, Outcome, Record, SetUp};
 
 // What a box last sent with a tag, the message to box 1 first.
-#[derive(Drop)]
+#[derive(Clone, Copy)]
 struct Mail {
     bytes: [u8; 2048],
 }
 
 // Box 1 stands at 0, and its mail at the tag; box 2 behind it, and its mail five places behind; and so on.
-#[derive(Drop)]
+#[derive(Clone, Copy)]
 struct Room {
     boxes: [Record; 10],
     post: [Mail; 50],
@@ -23,7 +23,7 @@ fn bytes_of(mail: Mail) -> [u8; 2048] {
 }
 
 // Where a message stands.
-#[derive(Drop)]
+#[derive(Clone, Copy)]
 struct Part {
     at: usize,
     end: usize,
@@ -127,7 +127,7 @@ fn moved(room: Room, m: Move, u: SetUp, secret: u32, coins: &[u16]) -> Room
     after
 }
 
-// A class from the first move of its script to the last. The set-up numbers are those of box 0, which is refused and leaves the all-zero
+// A class from the first move of its script to the last. The set_up_lem numbers are those of box 0, which is refused and leaves the all-zero
 // record.
 pub fn play(u: SetUp, secret: u32, coins: &[u16], script: &[u8])
     requires { length script.now ≤ 1000 }

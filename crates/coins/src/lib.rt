@@ -1,4 +1,6 @@
 // The coins of a deal: whether they keep their rule, and the coefficients of f and f' that the secret and they make.
+#![tactic(auto)]
+
 ghost use Rattle.std.specs.Prelude.{◌≡◌, ◌∷◌, ◌+◌, ◌*◌, ◌≤◌, ltb, length, get_or};
 ghost use Rattle.folds.specs.Below.{all_below};
 ghost use Rattle.rules.specs.Numbers.{exponent};

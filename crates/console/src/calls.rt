@@ -9,21 +9,21 @@ use console_lines::{reasons, said};
 use rules::{Outcome, Record, SetUp};
 
 // The box's record, and how many bytes it is lent.
-#[derive(Drop)]
+#[derive(Clone, Copy)]
 pub struct Bench {
     pub x: Record,
     pub lent: usize,
 }
 
 // What a line comes to: the bench from now on, so many bytes on the page, and whether the program ends.
-#[derive(Drop)]
+#[derive(Clone, Copy)]
 pub struct Turn {
     pub bench: Bench,
     pub wrote: usize,
     pub ends: bool,
 }
 
-// No box: the all-zero record, as a refused set-up leaves it.
+// No box: the all-zero record, as a refused set_up_lem leaves it.
 pub fn new_bench() -> Bench {
     let nobody = SetUp {
         group: 0,

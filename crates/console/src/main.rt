@@ -1,4 +1,6 @@
 // One box at a keyboard or at the end of a pipe: reads lines, and answers each at once.
+#![tactic(auto)]
+
 mod calls;
 
 use console_lines::lines;

@@ -14,7 +14,7 @@ use crate::reasons::Reason;
 use crate::words::Word;
 
 // A line that says nothing; a bad one; or one that begins with this word, all its items of their forms.
-#[derive(Drop)]
+#[derive(Clone, Copy)]
 pub enum Judged {
     Quiet,
     Bad(Reason),

@@ -14,7 +14,7 @@ ghost use Rattle.console_lines.specs.Lines.{
 };
 
 // The bytes that have come and are not taken yet: those of the buffer from one place to another.
-#[derive(Drop)]
+#[derive(Clone, Copy)]
 pub struct Held {
     pub from: usize,
     pub to: usize,
@@ -22,7 +22,7 @@ pub struct Held {
 
 // A line, without its newline, from one place of the buffer to another; one that is too long, skipped to its end; one that the
 // end of the input cut off; or the end of the input.
-#[derive(Drop)]
+#[derive(Clone, Copy)]
 pub enum Line {
     Whole { from: usize, to: usize },
     TooLong,
@@ -31,7 +31,7 @@ pub enum Line {
 }
 
 // And what is held behind it.
-#[derive(Drop)]
+#[derive(Clone, Copy)]
 pub struct Next {
     pub line: Line,
     pub held: Held,

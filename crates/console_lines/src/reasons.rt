@@ -5,7 +5,7 @@ ghost use Rattle.text.specs.Puts.{Puts};
 ghost use Rattle.console_lines.specs.Reasons.{reason_line};
 
 // The first that holds; places and items are counted from 1.
-#[derive(Drop)]
+#[derive(Clone, Copy)]
 pub enum Reason {
     TooLong,
     CutOff,

@@ -21,7 +21,7 @@ use rules::SetUp;
 
 // A deal has a secret and so many coins, a delivery a sender and so many bytes, and so has `read`; they stand in the space that
 // was lent.
-#[derive(Drop)]
+#[derive(Clone, Copy)]
 pub enum Said {
     Nothing,
     Quit,

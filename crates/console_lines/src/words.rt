@@ -12,7 +12,7 @@ ghost use Rattle.console_lines.specs.Words.{
   bad_item,
 };
 
-#[derive(Drop)]
+#[derive(Clone, Copy)]
 pub enum Word {
     SetUp,
     Lend,
@@ -28,7 +28,7 @@ pub enum Word {
 }
 
 // At least and at most so many items; the first so many of them are decimals up to the limit, the others hexadecimal.
-#[derive(Drop)]
+#[derive(Clone, Copy)]
 pub struct Form {
     pub least: usize,
     pub most: usize,

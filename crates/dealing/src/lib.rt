@@ -1,5 +1,7 @@
 // Dealing: from the coefficients of f and f' to the commitment C and each box's polynomials; and the values of polynomials.
 // Matrices are 8 by 8 and go by value; the first k rows and columns are in use, the rest is zero.
+#![tactic(auto)]
+
 ghost use Rattle.std.specs.Prelude.{◌≡◌, ◌≤◌, ◌<◌};
 ghost use Rattle.rules.specs.Numbers.{exponent, element};
 ghost use Rattle.rules.specs.Matrices.{row, coefficient, coefficient₂, to_boxes, zero_four};

@@ -29,11 +29,11 @@ use Rattle.rules.specs.Answers.{set_up, exponents_keep, checks}
 use Rattle.rules.specs.Laws.Numbers.{bounds, box_is}
 use Rattle.rules.specs.Laws.Agreement.{share_agree}
 use Rattle.rules.specs.Laws.RoundTrip.{MatrixFits, Fits, matrix_part}
-use Rattle.rules.specs.Laws.Ranges.{four_room, pair_room, read_room, slot-room, dealt-room, dealt-rooms}
+use Rattle.rules.specs.Laws.Ranges.{four_room, pair_room, read_room, slot_room, dealt_room, dealt_rooms}
 use Rattle.demands.specs.Terms.Histories.{Call, gets, doing, after, wrote, message_to, keeps, own}
 use Rattle.demands.specs.MessageTo.{message_to_lem}
 use Rattle.demands.specs.Terms.Dealing.{group, order, dealt_point, dealt_share, Different}
-use Rattle.demands.specs.Sharing.{size, send_passes, echo-passes, ready-passes, points-give}
+use Rattle.demands.specs.Sharing.{size, send_passes, echo_passes, ready_passes, points_give}
 use Rattle.demands.specs.Terms.Lives.{kept_for, lowest_for, readies_sent, answer_to}
 use Rattle.demands.specs.Lives.{life_sound, kept_then, kept_passes, completed_kept}
 use Rattle.demands.specs.Lives.Slots.{slot-used, there_some}
@@ -66,7 +66,7 @@ module _ (u : SetUp) (taken : (set_up u).answer.no ≡ 0) (cs : List Call) (s : 
       let passes = facts.contents.passes used in
       record {
         passes = passes;
-        room = slot-room u numbers.group_keeps_lem (size u numbers).high slot ((good u taken cs).shape.slot s l) facts.contents.zero passes;
+        room = slot_room u numbers.group_keeps_lem (size u numbers).high slot ((good u taken cs).shape.slot s l) facts.contents.zero passes;
         differ =
             subst
             (λ (w : Slot). Different u zero_four (take u.k (points w.places)) (λ m f. point_check (group u) u.k C u.i m f ≡ true))
@@ -139,7 +139,7 @@ module _ (u : SetUp) (i j : ℕ) (taken : (set_up (own u i)).answer.no ≡ 0) (t
       let high = (size (own u i) numbers).high in
       let ok = send_passes (own u i) numbers t.0 t.1 t.2 j in
       arrives _ 1 (λ m. refl) t.4
-      (with_matrix _ (omega arith) (dealt-room (own u i) numbers.group_keeps_lem high _ _, dealt-rooms (own u i) numbers.group_keeps_lem high _ _ j)
+      (with_matrix _ (omega arith) (dealt_room (own u i) numbers.group_keeps_lem high _ _, dealt_rooms (own u i) numbers.group_keeps_lem high _ _ j)
       (λ q. t.3) unheard (λ q. ok.0) ok.1 (rw at_j ok.2))
 
   pub echo_accepted : (doing (after (own u i) cs) c).outcome.answer.sent ≡ Echo → heard_for (after (own u j) cs') 2 (i - 1) ≡ false → answer_to u i j cs cs' c lent ≡ 0
@@ -148,7 +148,7 @@ module _ (u : SetUp) (i j : ℕ) (taken : (set_up (own u i)).answer.no ≡ 0) (t
       let t = said_by_lem Echo e in
       let numbers = numbers_keep_lem (own u i) taken in
       let high = (size (own u i) numbers).high in
-      let ok = echo-passes (own u i) numbers (matrix_in (own u i) t.0) t.1 i j (polynomials_in (own u i) t.0) t.2 in
+      let ok = echo_passes (own u i) numbers (matrix_in (own u i) t.0) t.1 i j (polynomials_in (own u i) t.0) t.2 in
       arrives _ 2 (λ m. refl) t.3
       (with_matrix _ (omega arith) (read_room (own u i) numbers.group_keeps_lem high t.0 t.1, four_room (own u i) numbers.group_keeps_lem high _ ok.0)
       (λ q. absurd (omega arith)) unheard (λ q. t.1) ok.0 (rw at_j ok.1))
@@ -160,7 +160,7 @@ module _ (u : SetUp) (i j : ℕ) (taken : (set_up (own u i)).answer.no ≡ 0) (t
       let numbers = numbers_keep_lem (own u i) taken in
       let high = (size (own u i) numbers).high in
       let b = behind (own u i) taken (c ∷ cs) t.0 t.1 t.2 in
-      let ok = ready-passes (own u i) numbers _ b.passes i _ b.differ j in
+      let ok = ready_passes (own u i) numbers _ b.passes i _ b.differ j in
       arrives _ 3 (λ m. refl) t.3
       (with_matrix _ (omega arith) (b.room, four_room (own u i) numbers.group_keeps_lem high _ ok.0)
       (λ q. absurd (omega arith)) unheard (λ q. b.passes) ok.0 (rw at_j ok.1))
@@ -207,4 +207,4 @@ pub dealt_share_kept : (u : SetUp) → (set_up u).answer.no ≡ 0 → (cs : List
     → Different u zero_four (lowest_for u (after u (c ∷ cs)) C) (λ m f. f ≡ dealt_point u secret coins m u.i)
     → kept_for (after u (c ∷ cs)) C ≡ There (dealt_share u secret coins u.i)
 dealt_share_kept u taken cs c C now secret coins keeps dealt =
-    kept_then u taken cs c C now ∙ ap There (points-give u (numbers_keep_lem u taken) secret coins keeps u.i _ dealt).1
+    kept_then u taken cs c C now ∙ ap There (points_give u (numbers_keep_lem u taken) secret coins keeps u.i _ dealt).1

@@ -55,7 +55,7 @@ module _ (u : SetUp) (s : Sound u) where
   pub dealt_shares_give_the_secret : (secret : ℕ) (coins : List ℕ) → coins_keep u secret coins ≡ true → (ps : List (Said Pair))
       → Different u no_pair ps (λ m x. x ≡ dealt_share u secret coins m)
       → ((recovered_from (order u) ps).first.0 ≡ secret) × ((recovered_from (order u) ps).second.0 ≡ get_or coins (u.k * u.k - 1) 0)
-  dealt_shares_give_the_secret = Sharing.shares-give u s
+  dealt_shares_give_the_secret = Sharing.shares_give u s
 
   -- "Any k verified shares from k different boxes give a pair that opens the first entry of the commitment, whoever dealt and
   -- whoever lied." More cannot be said: in P8 the pair (0, 1) of box 2 is verified too, and with box 1's share gives (3, 4), which
@@ -124,7 +124,7 @@ module _ (u : SetUp) (taken : (set_up u).answer.no ≡ 0) (cs : List Call) where
   pub every_byte_sent : (c : Call) → Sends u cs c (doing (after u cs) c).outcome.answer.sent (wrote (doing (after u cs) c))
   every_byte_sent = Bytes.every_byte u taken cs
 
-  -- its record is sound, and has the numbers of its set-up: the box never meets 12
+  -- its record is sound, and has the numbers of its set_up_lem: the box never meets 12
   pub stays_sound : (sound (after u cs) ≡ true) × Shaped (after u cs) × ((after u cs).setup ≡ u)
   stays_sound = Lives.life_sound u taken cs
 
@@ -138,7 +138,7 @@ module _ (u : SetUp) (taken : (set_up u).answer.no ≡ 0) (cs : List Call) where
   -- "An accepted message marks its sender heard for its tag.", and nobody else
   pub accepted_is_heard : (sender lent : ℕ) (bytes : List ℕ) → (doing (after u cs) (gets sender bytes lent)).outcome.answer.no ≡ 0
       → NowHeard (after u cs) (after u (gets sender bytes lent ∷ cs)) (tag_in bytes) (sender - 1)
-  accepted_is_heard = Lives.accepted-heard u taken cs
+  accepted_is_heard = Lives.accepted_heard u taken cs
 
   -- "All refusals leave the record as it came, except that 8, 9 and 10 on tags 1, 2, 3 mark that sender heard for that tag"
   pub refusal_marks_one_at_most : (sender lent : ℕ) (bytes : List ℕ) → (doing (after u cs) (gets sender bytes lent)).outcome.answer.no ≢ 0
@@ -146,7 +146,7 @@ module _ (u : SetUp) (taken : (set_up u).answer.no ≡ 0) (cs : List Call) where
       × (after u (gets sender bytes lent ∷ cs) ≡ after u cs))
       ⊎ (Heard (doing (after u cs) (gets sender bytes lent)).outcome.answer.no (tag_in bytes)
       × OneMark (after u cs) (after u (gets sender bytes lent ∷ cs)) (tag_in bytes) (sender - 1))
-  refusal_marks_one_at_most = Lives.refused-leaves u taken cs
+  refusal_marks_one_at_most = Lives.refused_leaves u taken cs
 
   -- "deal .. a second time", "recovery command .. a second time" get 13
   pub deals_once : how_many (λ (a : Answer). is_send a.sent) (answers u cs) ≤ 1
@@ -241,10 +241,10 @@ module _ (u : SetUp) (taken : (set_up u).answer.no ≡ 0) (cs : List Call) where
 module _ (station : Station) (keeps : Keeps station) (u : SetUp) (taken : (set_up u).answer.no ≡ 0)
     (cs : List Call) (given : AllSayable cs) (C : List (List Element)) where
   pub no_e_is_made_up : e_of (after_by station u cs) C ≡ count_below 10 (λ m. checked_by station u cs 2 (m + 1) C)
-  no_e_is_made_up = Stations.e-by-station station keeps u taken cs given C
+  no_e_is_made_up = Stations.e_by_station station keeps u taken cs given C
 
   pub no_r_is_made_up : r_of (after_by station u cs) C ≡ count_below 10 (λ m. checked_by station u cs 3 (m + 1) C)
-  no_r_is_made_up = Stations.r-by-station station keeps u taken cs given C
+  no_r_is_made_up = Stations.r_by_station station keeps u taken cs given C
 
 -- ---- a class in which all boxes keep the rules, in any history with one deal
 
@@ -296,10 +296,10 @@ module _ (b : List ℕ) where
 module _ (u : SetUp) (s : Sound u) (A : ℕ → Bool) (few : Few u A) (secret secret' : ℕ) (low : secret < order u) (low' : secret' < order u)
     (coins : List ℕ) (keep : coins_keep u secret coins ≡ true) where
   pub matching_coins_keep : coins_keep u secret' (matching u A secret secret' coins) ≡ true
-  matching_coins_keep = Matching.matching-keeps u s A few secret secret' low low' coins keep
+  matching_coins_keep = Matching.matching_keeps u s A few secret secret' low low' coins keep
 
   pub matching_coins_go_back : matching u A secret' secret (matching u A secret secret' coins) ≡ coins
-  matching_coins_go_back = Matching.matching-back u s A few secret secret' low low' coins keep
+  matching_coins_go_back = Matching.matching_back u s A few secret secret' low low' coins keep
 
 -- "take any set of at most k - 1 boxes without the dealer and any two secrets below q": with the matching coins, every script
 -- looks the same: every byte delivered to the set, and every answer, count and completed matrix of the other boxes. The script is

@@ -106,18 +106,18 @@ module _ (c : Class) (secret : ℕ) (coins : List ℕ) (h : AllKeep c secret coi
   unfolding is_box
   lives_dealt es only before i box-i = go
     where
-      set-up : (cs : List Call) → (after (own u i) cs).setup ≡ own u i
-      set-up = own-setup (own u i) (is-taken u secret coins h.deal i box-i)
+      set_up_lem : (cs : List Call) → (after (own u i) cs).setup ≡ own u i
+      set_up_lem = own-setup (own u i) (is-taken u secret coins h.deal i box-i)
 
       go : (call : Call) (cs : List Call) → Past (call ∷ cs) (calls c es i) → CallDealt u secret coins i (after (own u i) cs) call
       go (deals secret' coins' lent) cs p = λ e.
-          let dealer = subst (λ (v : SetUp). eqb v.i v.d ≡ true) (set-up cs) (deals_passed _ secret' coins' lent e).dealer in
+          let dealer = subst (λ (v : SetUp). eqb v.i v.d ≡ true) (set_up_lem cs) (deals_passed _ secret' coins' lent e).dealer in
           let at-d : i ≡ u.d = eqb-true i u.d dealer in
           only secret' coins' lent cs (subst (λ (j : ℕ). Past (deals secret' coins' lent ∷ cs) (calls c es j)) at-d p)
           (subst (λ (j : ℕ). (doing (after (own u j) cs) (deals secret' coins' lent)).outcome.answer.no ≡ 0) at-d e)
       go (gets from bytes lent) cs p = λ e.
           let box-from : is_box u from ≡ true =
-          subst (λ (v : SetUp). is_box v from ≡ true) (set-up cs) (gets_passed _ from bytes lent e).hearing.box in
+          subst (λ (v : SetUp). is_box v from ≡ true) (set_up_lem cs) (gets_passed _ from bytes lent e).hearing.box in
           let w = carries_earlier c es i from bytes lent cs (keeper from box-from) p in
           subst (λ (b : List ℕ). Dealt u secret coins from i (message_in u b)) (sym w.bytes_are)
           (comes-dealt u secret coins h.deal from i box-i _

@@ -1,4 +1,4 @@
--- The life of a box that keeps the rules, whatever it is told and sent: demand 2 over histories from set-up.
+-- The life of a box that keeps the rules, whatever it is told and sent: demand 2 over histories from set_up_lem.
 --
 -- In the modules below: what a box holds for a matrix, as one slot (`Slots`, `Replaced`); the steps of checked messages (`Stepped`,
 -- `Took`); any call taken apart (`Turns`, `Deliveries`), and seen from one matrix (`Seen`); a life from its beginning (`Born`), and by
@@ -64,7 +64,7 @@ use Bytes.{every_byte}
 use Completed.{forced, done-kept, share-kept, completion-on, matrix-on, share-on}
 use Recovered.{shares-are, recovered-is, share-pass, report-open}
 
--- ---- the statements, of a box that set-up accepted and of any calls
+-- ---- the statements, of a box that set_up_lem accepted and of any calls
 
 module _ (u : SetUp) (taken : (set_up u).answer.no ≡ 0) (cs : List Call) where
   pub life_sound : (sound (after u cs) ≡ true) × Shaped (after u cs) × ((after u cs).setup ≡ u)
@@ -210,14 +210,14 @@ module _ (u : SetUp) (taken : (set_up u).answer.no ≡ 0) (cs : List Call) where
     abbrev it : Call
     it = gets sender bytes lent
 
-    pub accepted-heard : (doing (after u cs) it).outcome.answer.no ≡ 0
+    pub accepted_heard : (doing (after u cs) it).outcome.answer.no ≡ 0
         → NowHeard (after u cs) (after u (it ∷ cs)) (tag_in bytes) (sender - 1)
     unfolding doing after
-    accepted-heard = accepted_hears (after u cs) (good u taken cs).shape sender bytes (replicate lent 0)
+    accepted_heard = accepted_hears (after u cs) (good u taken cs).shape sender bytes (replicate lent 0)
 
-    pub refused-leaves : (doing (after u cs) it).outcome.answer.no ≢ 0
+    pub refused_leaves : (doing (after u cs) it).outcome.answer.no ≢ 0
         → ((Heard (doing (after u cs) it).outcome.answer.no (tag_in bytes) → ⊥) × (after u (it ∷ cs) ≡ after u cs))
         ⊎ (Heard (doing (after u cs) it).outcome.answer.no (tag_in bytes)
         × OneMark (after u cs) (after u (it ∷ cs)) (tag_in bytes) (sender - 1))
     unfolding doing after
-    refused-leaves = refusal_leaves (after u cs) (good u taken cs).shape sender bytes (replicate lent 0)
+    refused_leaves = refusal_leaves (after u cs) (good u taken cs).shape sender bytes (replicate lent 0)

@@ -28,7 +28,7 @@ use Rattle.rules.specs.Dealing.{f_of, f'_of, coins_keep, committed, commitment, 
 use Rattle.rules.specs.Laws.Numbers.{group_sizes}
 use Rattle.rules.specs.Laws.Matrices.{matrix_same, row_within}
 use Rattle.rules.specs.Laws.Generator.{logarithm_some, logarithm_below, committed_moves}
-use Rattle.rules.specs.Laws.Dealing.{f_of_at, f'_of_at, alongY-at, alongX-at, coins_count, coin_low}
+use Rattle.rules.specs.Laws.Dealing.{f_of_at, f'_of_at, along_y_at, along_x_at, coins_count, coin_low}
 use Rattle.demands.specs.Terms.Dealing.{group, order, Sound, dealt_matrix, dealt_to, none}
 use Rattle.demands.specs.Sharing.{rule, size}
 use Rattle.demands.specs.Terms.Secrets.{Few, vanishing, z, difference, difference', moved, matching}
@@ -156,9 +156,9 @@ module _ (u : SetUp) (A : ℕ → Bool) (s s' : ℕ) where
 
   module _ (low : s < order u) (low' : s' < order u) where
     -- back again
-    difference'-back : (difference' u s s' + difference' u s' s) % order u ≡ 0
+    difference'_back : (difference' u s s' + difference' u s' s) % order u ≡ 0
     unfolding difference'
-    difference'-back =
+    difference'_back =
         let q = order u in
         let c = q - inverse q (logarithm (group u)) in
         let d = difference u s s' in
@@ -170,7 +170,7 @@ module _ (u : SetUp) (A : ℕ → Bool) (s s' : ℕ) where
     moved_back v =
         ⊎_elim
         (λ e. rw e (multiples_zero (order u) _ _ _ (difference_back (order u) s s' low low')))
-        (λ e. rw e (multiples_zero (order u) _ _ _ difference'-back))
+        (λ e. rw e (multiples_zero (order u) _ _ _ difference'_back))
         (decide (ltb v (u.k * u.k)))
 
 module _ (u : SetUp) (A : ℕ → Bool) (s s' : ℕ) (coins : List ℕ) where
@@ -191,18 +191,18 @@ module _ (u : SetUp) (A : ℕ → Bool) (small : u.k ≤ 8) (f f* : List (List E
       ≡ (coefficient (along_y (order u) u.k f j) l + d * (z_at u A j * z u A l)) % order u
   unfolding z_at
   along_y_lem =
-      alongY-at u.k small (order u) f* j l hl
+      along_y_at u.k small (order u) f* j l hl
       ∙ sum_moves (order u) u.k d (z u A l) j (λ i. coefficient₂ f i l) (λ i. coefficient₂ f* i l) (z u A) (λ i hi. moves i l hi hl)
-      ∙ ap (λ t. (t + d * (z_at u A j * z u A l)) % order u) (sym (alongY-at u.k small (order u) f j l hl))
+      ∙ ap (λ t. (t + d * (z_at u A j * z u A l)) % order u) (sym (along_y_at u.k small (order u) f j l hl))
 
   along_x_lem : coefficient (along_x (order u) u.k f* j) l
       ≡ (coefficient (along_x (order u) u.k f j) l + d * (z_at u A j * z u A l)) % order u
   unfolding z_at
   along_x_lem =
-      alongX-at u.k small (order u) f* j l hl
+      along_x_at u.k small (order u) f* j l hl
       ∙ sum_moves (order u) u.k d (z u A l) j (coefficient₂ f l) (coefficient₂ f* l) (z u A)
       (λ i hi. moves l i hl hi ∙ ap (λ t. (coefficient₂ f l i + d * t) % order u) (mul_comm (z u A l) (z u A i)))
-      ∙ ap (λ t. (t + d * (z_at u A j * z u A l)) % order u) (sym (alongX-at u.k small (order u) f j l hl))
+      ∙ ap (λ t. (t + d * (z_at u A j * z u A l)) % order u) (sym (along_x_at u.k small (order u) f j l hl))
 
 -- ---- what it keeps
 
@@ -245,9 +245,9 @@ module _ (u : SetUp) (sound : Sound u) (A : ℕ → Bool) (few : Few u A) (s s' 
       ∙ mul-zero-mod q d _ (one_less q (rule u sound).q_prime n some below))
 
   module _ (coins : List ℕ) (keeps : coins_keep u s coins ≡ true) where
-    pub matching-keeps : coins_keep u s' (matching u A s s' coins) ≡ true
+    pub matching_keeps : coins_keep u s' (matching u A s s' coins) ≡ true
     unfolding coins_keep
-    matching-keeps =
+    matching_keeps =
         let q = order u in
         let m = matching u A s s' coins in
         and_intro (ltb s' q) _ (lt-ltb s' q low')
@@ -258,8 +258,8 @@ module _ (u : SetUp) (sound : Sound u) (A : ℕ → Bool) (few : Few u A) (s s' 
         lt-ltb (get_or m c 0) q (rw (get_or-matching u A s s' coins c (omega arith)) (mod-lt _ (omega arith))))))
 
     -- one to one and onto: the way back is the same with the secrets exchanged
-    pub matching-back : matching u A s' s (matching u A s s' coins) ≡ coins
-    matching-back =
+    pub matching_back : matching u A s' s (matching u A s s' coins) ≡ coins
+    matching_back =
         let q = order u in
         let m = matching u A s s' coins in
         ext_get_or 0 (matching u A s' s m) coins (length-matching u A s' s m ∙ sym (coins_count u s coins keeps))
@@ -276,9 +276,9 @@ module _ (u : SetUp) (sound : Sound u) (A : ℕ → Bool) (few : Few u A) (s s' 
         ∙ mod-eq_of_lt (coin_low u s coins keeps c (omega (arith, coins_count u s coins keeps))))
 
     -- number v of the secret and the coins behind it
-    number-moves : (v : ℕ) → v < 2 * (u.k * u.k)
+    number_moves : (v : ℕ) → v < 2 * (u.k * u.k)
         → get_or (s' ∷ matching u A s s' coins) v 0 ≡ (get_or (s ∷ coins) v 0 + moved u A s s' v) % order u
-    number-moves zero l =
+    number_moves zero l =
         let some = (size u sound).low in
         let z0 = vanishing_first (order u) A u.n in
         let none : 0 + (0 * u.k + 0) ≡ 0 = omega arith in
@@ -289,48 +289,48 @@ module _ (u : SetUp) (sound : Sound u) (A : ℕ → Bool) (few : Few u A) (s s' 
         ∙ moved_f u A s s' 0 0 (omega arith) (omega arith)
         ∙ ap (λ t. difference u s s' * (t * t)) z0
         ∙ mul-one (difference u s s')))
-    number-moves (suc c) l =
+    number_moves (suc c) l =
         get_or-matching u A s s' coins c (omega arith) ∙ ap (λ v. (get_or coins c 0 + moved u A s s' v) % order u) (add-one c)
 
-    f-moves : (j l : ℕ) → j < u.k → l < u.k
+    f_moves : (j l : ℕ) → j < u.k → l < u.k
         → coefficient₂ (f_of u s' (matching u A s s' coins)) j l
         ≡ (coefficient₂ (f_of u s coins) j l + difference u s s' * (z u A j * z u A l)) % order u
-    f-moves j l hj hl =
+    f_moves j l hj hl =
         let small = (size u sound).high in
         let within = row_within j u.k hj in
         f_of_at u small s' (matching u A s s' coins) j l hj hl
-        ∙ number-moves (0 + (j * u.k + l)) (omega arith)
+        ∙ number_moves (0 + (j * u.k + l)) (omega arith)
         ∙ ap₂ (λ a b. (a + b) % order u) (sym (f_of_at u small s coins j l hj hl)) (moved_f u A s s' j l hj hl)
 
-    f'-moves : (j l : ℕ) → j < u.k → l < u.k
+    f'_moves : (j l : ℕ) → j < u.k → l < u.k
         → coefficient₂ (f'_of u s' (matching u A s s' coins)) j l
         ≡ (coefficient₂ (f'_of u s coins) j l + difference' u s s' * (z u A j * z u A l)) % order u
-    f'-moves j l hj hl =
+    f'_moves j l hj hl =
         let small = (size u sound).high in
         let within = row_within j u.k hj in
         f'_of_at u small s' (matching u A s s' coins) j l hj hl
-        ∙ number-moves (u.k * u.k + (j * u.k + l)) (omega arith)
+        ∙ number_moves (u.k * u.k + (j * u.k + l)) (omega arith)
         ∙ ap₂ (λ a b. (a + b) % order u) (sym (f'_of_at u small s coins j l hj hl)) (moved_f' u A s s' j l hl)
 
-    pub matching-matrix : dealt_matrix u s' (matching u A s s' coins) ≡ dealt_matrix u s coins
+    pub matching_matrix : dealt_matrix u s' (matching u A s s' coins) ≡ dealt_matrix u s coins
     unfolding commitment
-    matching-matrix =
+    matching_matrix =
         matrix_same u.k (element 0) _ _
         (λ j l hj hl.
         ap (λ (t : ℕ). element t)
-        (ap₂ (committed (group u)) (f-moves j l hj hl) (f'-moves j l hj hl) ∙ move_unseen _ _ (z u A j * z u A l)))
+        (ap₂ (committed (group u)) (f_moves j l hj hl) (f'_moves j l hj hl) ∙ move_unseen _ _ (z u A j * z u A l)))
 
     -- what box j gets moves by δ z(j) z, and δ' z(j) z
-    pub matching-sends : (j l : ℕ) → l < u.k
+    pub matching_sends : (j l : ℕ) → l < u.k
         → (coefficient (dealt_to u s' (matching u A s s' coins) j).a l ≡ (coefficient (dealt_to u s coins j).a l + difference u s s' * (z_at u A j * z u A l)) % order u)
         × (coefficient (dealt_to u s' (matching u A s s' coins) j).a2 l ≡ (coefficient (dealt_to u s coins j).a2 l + difference' u s s' * (z_at u A j * z u A l)) % order u)
         × (coefficient (dealt_to u s' (matching u A s s' coins) j).b l ≡ (coefficient (dealt_to u s coins j).b l + difference u s s' * (z_at u A j * z u A l)) % order u)
         × (coefficient (dealt_to u s' (matching u A s s' coins) j).b2 l ≡ (coefficient (dealt_to u s coins j).b2 l + difference' u s s' * (z_at u A j * z u A l)) % order u)
     unfolding polynomials_of
-    matching-sends j l hl =
+    matching_sends j l hl =
         let small = (size u sound).high in (
-          along_y_lem u A small _ _ _ f-moves j l hl,
-          along_y_lem u A small _ _ _ f'-moves j l hl,
-          along_x_lem u A small _ _ _ f-moves j l hl,
-          along_x_lem u A small _ _ _ f'-moves j l hl,
+          along_y_lem u A small _ _ _ f_moves j l hl,
+          along_y_lem u A small _ _ _ f'_moves j l hl,
+          along_x_lem u A small _ _ _ f_moves j l hl,
+          along_x_lem u A small _ _ _ f'_moves j l hl,
         )

@@ -49,14 +49,14 @@ module _ (station : Station) (keeps : Keeps station) (u : SetUp) (taken : (set_u
   -- ---- the statement
 
   module _ (cs : List Call) (s : AllSayable cs) (C : List (List Element)) where
-    pub e-by-station : e_of (after_by station u cs) C ≡ count_below 10 (λ m. checked_by station u cs 2 (m + 1) C)
-    e-by-station =
+    pub e_by_station : e_of (after_by station u cs) C ≡ count_below 10 (λ m. checked_by station u cs 2 (m + 1) C)
+    e_by_station =
         ap (λ (x : Record). e_of x C) (same_life cs s)
         ∙ e_counts u taken cs C
         ∙ count_below_same _ _ 10 (λ m l. sym (same_checked cs s 2 (m + 1) C))
 
-    pub r-by-station : r_of (after_by station u cs) C ≡ count_below 10 (λ m. checked_by station u cs 3 (m + 1) C)
-    r-by-station =
+    pub r_by_station : r_of (after_by station u cs) C ≡ count_below 10 (λ m. checked_by station u cs 3 (m + 1) C)
+    r_by_station =
         ap (λ (x : Record). r_of x C) (same_life cs s)
         ∙ r_counts u taken cs C
         ∙ count_below_same _ _ 10 (λ m l. sym (same_checked cs s 3 (m + 1) C))

@@ -84,20 +84,20 @@ module _ {A : Type 0} where
     length-gather w h zero = sym (zero-mul w)
     length-gather w h (suc n) = length-append (gather n f) (f n) ∙ (rw (length-gather w h n, h n) (sym (suc-mul n w)))
 
-    pub length-gather-le : (w : ℕ) → ((i : ℕ) → length (f i) ≤ w) → (n : ℕ) → length (gather n f) ≤ n * w
+    pub length-gather_le : (w : ℕ) → ((i : ℕ) → length (f i) ≤ w) → (n : ℕ) → length (gather n f) ≤ n * w
     unfolding gather
-    length-gather-le w h zero = omega arith
-    length-gather-le w h (suc n) =
-        rw length-append (omega (arith, length-gather-le w h n, h n, suc-mul n w))
+    length-gather_le w h zero = omega arith
+    length-gather_le w h (suc n) =
+        rw length-append (omega (arith, length-gather_le w h n, h n, suc-mul n w))
 
     -- where each piece has one element or none, the length is how many have one
-    pub length-gather-count : (p : ℕ → Bool) → ((i : ℕ) → length (f i) ≡ pick (p i) 1 0) → (n : ℕ) → length (gather n f) ≡ count_below n p
+    pub length-gather_count : (p : ℕ → Bool) → ((i : ℕ) → length (f i) ≡ pick (p i) 1 0) → (n : ℕ) → length (gather n f) ≡ count_below n p
     unfolding gather count_below
-    length-gather-count p h zero = refl
-    length-gather-count p h (suc n) = length-append (gather n f) (f n) ∙ ap₂ ◌+◌ (length-gather-count p h n) (h n)
+    length-gather_count p h zero = refl
+    length-gather_count p h (suc n) = length-append (gather n f) (f n) ∙ ap₂ ◌+◌ (length-gather_count p h n) (h n)
 
-    pub length-gather-more : (i : ℕ) → length (gather (i + 1) f) ≡ length (gather i f) + length (f i)
-    length-gather-more i = ap length (gather-more i) ∙ length-append (gather i f) (f i)
+    pub length-gather_more : (i : ℕ) → length (gather (i + 1) f) ≡ length (gather i f) + length (f i)
+    length-gather_more i = ap length (gather-more i) ∙ length-append (gather i f) (f i)
 
     -- a turn of a loop that writes one more of the pieces
     pub sets-gather : (l : List A) (at j i : ℕ) → j ≡ at + length (gather i f) → sets (sets l at (gather i f)) j (f i) ≡ sets l at (gather (i + 1) f)
@@ -127,20 +127,20 @@ module _ {A : Type 0} (s : List A) where
 
   -- a run of pieces of one width: piece i, i widths further on
   module _ (f : ℕ → List A) (w : ℕ) (e : (i : ℕ) → length (f i) ≡ w) (p : ℕ) where
-    pub stands-piece : (n i : ℕ) → i < n → Stands s p (gather n f) → Stands s (p + i * w) (f i)
+    pub stands_piece : (n i : ℕ) → i < n → Stands s p (gather n f) → Stands s (p + i * w) (f i)
     unfolding gather
-    stands-piece zero i l h = absurd (not-suc-le-zero l)
-    stands-piece (suc n) i l h =
+    stands_piece zero i l h = absurd (not-suc-le-zero l)
+    stands_piece (suc n) i l h =
         ⊎_elim
         (λ q. subst (λ (j : ℕ). Stands s (p + j * w) (f j)) (sym q) (stands_right p (n * w) (gather n f) (f n) (length-gather f w e n) h))
-        (λ lt. stands-piece n i lt (stands_left p (gather n f) (f n) h))
+        (λ lt. stands_piece n i lt (stands_left p (gather n f) (f n) h))
         (eq-or-lt_of_le (le_of_suc-le-suc l))
 
-    pub stands-gather : (n : ℕ) → ((i : ℕ) → i < n → Stands s (p + i * w) (f i)) → Stands s p (gather n f)
+    pub stands_gather : (n : ℕ) → ((i : ℕ) → i < n → Stands s (p + i * w) (f i)) → Stands s p (gather n f)
     unfolding gather
-    stands-gather zero h = (drop p s, refl)
-    stands-gather (suc n) h =
-        stands_both p (n * w) (gather n f) (f n) (length-gather f w e n) (stands-gather n (λ i l. h i (omega arith))) (h n (omega arith))
+    stands_gather zero h = (drop p s, refl)
+    stands_gather (suc n) h =
+        stands_both p (n * w) (gather n f) (f n) (length-gather f w e n) (stands_gather n (λ i l. h i (omega arith))) (h n (omega arith))
 
   -- one element
   pub stands_reads : (p : ℕ) (x d : A) (r : List A) → Stands s p (x ∷ r) → get_or s p d ≡ x
@@ -170,8 +170,8 @@ module _ {A : Type 0} (s : List A) where
     length_three : length (a ++ b ++ c) ≡ w + w + w
     length_three = length-append (a ++ b) c ∙ ap₂ ◌+◌ length_two lc
 
-    pub stands-apart : Stands s p (a ++ b ++ c ++ d) → Stands s p a × Stands s q b × Stands s r c × Stands s t d
-    stands-apart h =
+    pub stands_apart : Stands s p (a ++ b ++ c ++ d) → Stands s p a × Stands s q b × Stands s r c × Stands s t d
+    stands_apart h =
         let h₃ = stands_left p (a ++ b ++ c) d h in
         let h₂ = stands_left p (a ++ b) c h₃ in (
           stands_left p a b h₂,
@@ -180,8 +180,8 @@ module _ {A : Type 0} (s : List A) where
           stands_at (p + (w + w + w)) t d (omega arith) (stands_right p (w + w + w) (a ++ b ++ c) d length_three h),
         )
 
-    pub stands-together : Stands s p a → Stands s q b → Stands s r c → Stands s t d → Stands s p (a ++ b ++ c ++ d)
-    stands-together ha hb hc hd =
+    pub stands_together : Stands s p a → Stands s q b → Stands s r c → Stands s t d → Stands s p (a ++ b ++ c ++ d)
+    stands_together ha hb hc hd =
         stands_both p (w + w + w) (a ++ b ++ c) d length_three
         (stands_both p (w + w) (a ++ b) c length_two
         (stands_both p w a b la ha (stands_at q (p + w) b (sym pq) hb))
@@ -198,7 +198,7 @@ module _ {A : Type 0} (n : ℕ) (f : ℕ → A) where
       let all = gather n (λ i. f i ∷ []) in
       let whole : Stands all 0 all = ([], sym (append-nil all)) in
       stands_reads all i (f i) d []
-      (stands_at all (0 + i * 1) i (f i ∷ []) (omega arith) (stands-piece all (λ i. f i ∷ []) 1 (λ i. refl) 0 n i l whole))
+      (stands_at all (0 + i * 1) i (f i ∷ []) (omega arith) (stands_piece all (λ i. f i ∷ []) 1 (λ i. refl) 0 n i l whole))
 
 -- every element has P
 abbrev pub Every : {A : Type 0} → (A → Type 0) → A → List A → Type 0

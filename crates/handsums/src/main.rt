@@ -1,4 +1,6 @@
 // Document 01's sums done by hand, P1 to P10, and a handful in group 2, worked out by the compiled code and printed a line each.
+#![tactic(auto)]
+
 mod boxes;
 mod first;
 mod lines;

@@ -14,11 +14,11 @@ use Rattle.rules.specs.Messages.{send, tag_of, body_of, framed, bytes_of, two_by
 use Rattle.rules.specs.Dealing.{f_of, f'_of, coins_keep, polynomials_of, from_coins}
 use Rattle.rules.specs.Computed.{computed}
 use Rattle.rules.specs.HandSums.{coins, C, dealt}
-use Rattle.rules.specs.Laws.Dealing.{alongY-at, alongX-at}
+use Rattle.rules.specs.Laws.Dealing.{along_y_at, along_x_at}
 use Rattle.demands.specs.Terms.Dealing.{order, Sound, dealt_matrix, dealt_to}
 use Rattle.demands.specs.Sharing.{size}
 use Rattle.demands.specs.Terms.Secrets.{vanishing, difference, difference', moved, matching, Few}
-use Rattle.demands.specs.Matching.{z_on_set, matching-matrix, matching-sends}
+use Rattle.demands.specs.Matching.{z_on_set, matching_matrix, matching_sends}
 use Rattle.demands.specs.Demands.{matching_coins_keep, matching_coins_go_back}
 
 -- ---- what a box of the set is sent
@@ -39,9 +39,9 @@ module _ (u : SetUp) (sound : Sound u) (A : ℕ → Bool) (few : Few u A) (s s' 
   there = matching u A s s' coins
 
   module _ (m : ℕ) (box : (1 ≤ m) × (m ≤ u.n)) (member : A m ≡ true) where
-    numbers-same : polynomial_bytes u (dealt_to u s' there m) ≡ polynomial_bytes u (dealt_to u s coins m)
+    numbers_same : polynomial_bytes u (dealt_to u s' there m) ≡ polynomial_bytes u (dealt_to u s coins m)
     unfolding polynomial_bytes coefficient_bytes polynomials_of
-    numbers-same =
+    numbers_same =
         let q = order u in
         let k = u.k in
         let small = (size u sound).high in
@@ -50,21 +50,21 @@ module _ (u : SetUp) (sound : Sound u) (A : ℕ → Bool) (few : Few u A) (s s' 
         let d = difference u s s' in
         let d' = difference' u s s' in
         let none = z_on_set u sound A few s s' low low' m box.0 box.1 member in
-        let moves = matching-sends u sound A few s s' low low' coins keeps m in
+        let moves = matching_sends u sound A few s s' low low' coins keeps m in
         ap₂ (λ a b. a ++ b)
         (ap₂ (λ a b. a ++ b)
         (ap₂ (λ a b. a ++ b)
-        (gather-same _ _ k (λ l hl. ap two_bytes (stays q d _ _ _ _ _ (alongY-at k small q f m l hl) none (moves l hl).0)))
-        (gather-same _ _ k (λ l hl. ap two_bytes (stays q d' _ _ _ _ _ (alongY-at k small q f' m l hl) none (moves l hl).1))))
-        (gather-same _ _ k (λ l hl. ap two_bytes (stays q d _ _ _ _ _ (alongX-at k small q f m l hl) none (moves l hl).2))))
-        (gather-same _ _ k (λ l hl. ap two_bytes (stays q d' _ _ _ _ _ (alongX-at k small q f' m l hl) none (moves l hl).3)))
+        (gather-same _ _ k (λ l hl. ap two_bytes (stays q d _ _ _ _ _ (along_y_at k small q f m l hl) none (moves l hl).0)))
+        (gather-same _ _ k (λ l hl. ap two_bytes (stays q d' _ _ _ _ _ (along_y_at k small q f' m l hl) none (moves l hl).1))))
+        (gather-same _ _ k (λ l hl. ap two_bytes (stays q d _ _ _ _ _ (along_x_at k small q f m l hl) none (moves l hl).2))))
+        (gather-same _ _ k (λ l hl. ap two_bytes (stays q d' _ _ _ _ _ (along_x_at k small q f' m l hl) none (moves l hl).3)))
 
-    pub send-same : bytes_of u (send (dealt_matrix u s' there) (dealt_to u s' there m))
+    pub send_same : bytes_of u (send (dealt_matrix u s' there) (dealt_to u s' there m))
         ≡ bytes_of u (send (dealt_matrix u s coins) (dealt_to u s coins m))
     unfolding bytes_of tag_of body_of
-    send-same =
+    send_same =
         ap₂ (λ C bytes. framed 1 (u.d ∷ two_bytes u.session ++ (u.k ∷ matrix_bytes u.k C ++ bytes)))
-        (matching-matrix u sound A few s s' low low' coins keeps) numbers-same
+        (matching_matrix u sound A few s s' low low' coins keeps) numbers_same
 
 -- ---- the class
 
@@ -111,9 +111,9 @@ pub P9 : (C 6 coins* ≡ C 5 coins)
     × (bytes_of numbers (send (C 6 coins*) (dealt 6 coins* 1)) ≡ bytes_of numbers (send (C 5 coins) (dealt 5 coins 1)))
 unfolding groups group_of f_of f'_of from_coins
 P9 = (
-  ap (λ t. dealt_matrix numbers 6 t) (sym matches) ∙ matching-matrix numbers numbers_sound set few 5 6 low_5 low_6 coins coins_keep_lem,
+  ap (λ t. dealt_matrix numbers 6 t) (sym matches) ∙ matching_matrix numbers numbers_sound set few 5 6 low_5 low_6 coins coins_keep_lem,
   ap (λ t. bytes_of numbers (send (dealt_matrix numbers 6 t) (dealt_to numbers 6 t 1))) (sym matches)
-      ∙ send-same numbers numbers_sound set few 5 6 low_5 low_6 coins coins_keep_lem 1 (omega arith, omega arith) refl,
+      ∙ send_same numbers numbers_sound set few 5 6 low_5 low_6 coins coins_keep_lem 1 (omega arith, omega arith) refl,
 )
 
 -- ---- what the theorems say of its coins

@@ -154,73 +154,73 @@ module _ (c : Class) where
 
   module _ (u : SetUp) where
     -- what is kept of one of two lists of calls
-    pick-lived : (b : Bool) (cs ds : List Call) (k : Past) → (b ≡ true → k ≡ lived u cs)
+    pick_lived : (b : Bool) (cs ds : List Call) (k : Past) → (b ≡ true → k ≡ lived u cs)
         → pick b k (lived u ds) ≡ lived u (pick b cs ds)
-    pick-lived true cs ds k h = h refl
-    pick-lived false cs ds k h = refl
+    pick_lived true cs ds k h = h refl
+    pick_lived false cs ds k h = refl
 
-    takes-lived : (call : Call) (cs : List Call) → takes call (lived u cs) ≡ lived u (call ∷ cs)
+    takes_lived : (call : Call) (cs : List Call) → takes call (lived u cs) ≡ lived u (call ∷ cs)
     unfolding takes after came_to answers sendings
-    takes-lived call cs = refl
+    takes_lived call cs = refl
 
-    any-lived : (from lent : ℕ) (ms : List (List ℕ)) (cs : List Call)
+    any_lived : (from lent : ℕ) (ms : List (List ℕ)) (cs : List Call)
         → takes_any (handed from lent ms) (lived u cs) ≡ lived u (handed from lent ms ++ cs)
-    any-lived from lent [] cs = refl
-    any-lived from lent (m ∷ ms) cs = takes-lived (gets from m lent) cs
+    any_lived from lent [] cs = refl
+    any_lived from lent (m ∷ ms) cs = takes_lived (gets from m lent) cs
 
   module _ (es : List Event) (r : Run) (h : (i : ℕ) → is_box c.numbers i ≡ true → box_in r i ≡ told_of es i) where
-    found-there : (from to place : ℕ) → keeps c from ≡ true
+    found_there : (from to place : ℕ) → keeps c from ≡ true
         → found c.numbers.n (box_in r from) to place ≡ message_at (own c.numbers from) (calls c es from) to place
     unfolding found message_at
-    found-there from to place k = ap (λ b. found c.numbers.n b to place) (h from (keeps_box from k))
+    found_there from to place k = ap (λ b. found c.numbers.n b to place) (h from (keeps_box from k))
 
-    box-next : (e : Event) (i : ℕ) → is_box c.numbers i ≡ true → box_next c e r i ≡ told_of (e ∷ es) i
+    box_next_lem : (e : Event) (i : ℕ) → is_box c.numbers i ≡ true → box_next c e r i ≡ told_of (e ∷ es) i
     unfolding box_next calls
-    box-next (deal_at at secret coins lent) i b =
+    box_next_lem (deal_at at secret coins lent) i b =
         let u = own c.numbers i in
         ap (λ k. pick (eqb at i and keeps c i) (takes (deals secret coins lent) k) k) (h i b)
-        ∙ pick-lived u (eqb at i and keeps c i) _ _ _ (λ _. takes-lived u (deals secret coins lent) _)
-    box-next (hand_on from to place lent) i b =
+        ∙ pick_lived u (eqb at i and keeps c i) _ _ _ (λ _. takes_lived u (deals secret coins lent) _)
+    box_next_lem (hand_on from to place lent) i b =
         let u = own c.numbers i in
         let n = c.numbers.n in
         let test = eqb to i and keeps c i and keeps c from in
         ap (λ k. pick test (takes_any (handed from lent (found n (box_in r from) to place)) k) k) (h i b)
-        ∙ pick-lived u test _ _ _
+        ∙ pick_lived u test _ _ _
         (λ t.
         ap (λ ms. takes_any (handed from lent ms) (lived u (calls c es i)))
-        (found-there from to place (and_right (keeps c i) _ (and_right (eqb to i) _ t)))
-        ∙ any-lived u from lent (message_at (own c.numbers from) (calls c es from) to place) (calls c es i))
-    box-next (forge from to bytes lent) i b =
+        (found_there from to place (and_right (keeps c i) _ (and_right (eqb to i) _ t)))
+        ∙ any_lived u from lent (message_at (own c.numbers from) (calls c es from) to place) (calls c es i))
+    box_next_lem (forge from to bytes lent) i b =
         let u = own c.numbers i in
         let test = eqb to i and keeps c i and not (keeps c from) in
         ap (λ k. pick test (takes (gets from bytes lent) k) k) (h i b)
-        ∙ pick-lived u test _ _ _ (λ _. takes-lived u (gets from bytes lent) _)
-    box-next (command_at at lent) i b =
+        ∙ pick_lived u test _ _ _ (λ _. takes_lived u (gets from bytes lent) _)
+    box_next_lem (command_at at lent) i b =
         let u = own c.numbers i in
         ap (λ k. pick (eqb at i and keeps c i) (takes (commanded lent) k) k) (h i b)
-        ∙ pick-lived u (eqb at i and keeps c i) _ _ _ (λ _. takes-lived u (commanded lent) _)
+        ∙ pick_lived u (eqb at i and keeps c i) _ _ _ (λ _. takes_lived u (commanded lent) _)
 
-    seen_next : r.saw ≡ seen c es → (e : Event) → seen_next c e r ≡ seen c (e ∷ es)
+    seen_next_lem : r.saw ≡ seen c es → (e : Event) → seen_next c e r ≡ seen c (e ∷ es)
     unfolding seen_next seen
-    seen_next s (deal_at at secret coins lent) = s
-    seen_next s (hand_on from to place lent) =
+    seen_next_lem s (deal_at at secret coins lent) = s
+    seen_next_lem s (hand_on from to place lent) =
         let test = may_break c to and keeps c from in
         ap (λ l. pick test (found c.numbers.n (box_in r from) to place ++ l) l) s
-        ∙ pick_same test _ _ _ (λ t. ap (λ ms. ms ++ seen c es) (found-there from to place (and_right (may_break c to) _ t)))
-    seen_next s (forge from to bytes lent) = s
-    seen_next s (command_at at lent) = s
+        ∙ pick_same test _ _ _ (λ t. ap (λ ms. ms ++ seen c es) (found_there from to place (and_right (may_break c to) _ t)))
+    seen_next_lem s (forge from to bytes lent) = s
+    seen_next_lem s (command_at at lent) = s
 
   pub replay_boxes : (es : List Event) (i : ℕ) → is_box c.numbers i ≡ true → box_in (replay c es) i ≡ told_of es i
   unfolding replay next calls
   replay_boxes [] i b = box_in-gather (λ m. life (own c.numbers m) []) [] i b ∙ life_lived (own c.numbers i) []
   replay_boxes (e ∷ es) i b =
       box_in-gather (box_next c e (replay c es)) (seen_next c e (replay c es)) i b
-      ∙ box-next es (replay c es) (replay_boxes es) e i b
+      ∙ box_next_lem es (replay c es) (replay_boxes es) e i b
 
   pub replay_seen : (es : List Event) → (replay c es).saw ≡ seen c es
   unfolding replay next seen
   replay_seen [] = refl
-  replay_seen (e ∷ es) = seen_next es (replay c es) (replay_boxes es) (replay_seen es) e
+  replay_seen (e ∷ es) = seen_next_lem es (replay c es) (replay_boxes es) (replay_seen es) e
 
   -- so is whatever is looked at of what the set has seen and of three boxes
   pub replayed : {A : Type 0} (look : List (List ℕ) → Past → Past → Past → A) (es : List Event) (i j k : ℕ)

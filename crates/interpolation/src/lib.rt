@@ -1,5 +1,7 @@
 // Lagrange's interpolation through points, wherever they come from: one inverse for each point, what each counts at x, and the
 // values there.
+#![tactic(auto)]
+
 ghost use Rattle.std.specs.Prelude.{◌≡◌, ◌<◌, ◌≤◌};
 ghost use Rattle.algebra.specs.Interpolation.{others};
 ghost use Rattle.rules.specs.Numbers.{exponent};
@@ -9,7 +11,7 @@ ghost use Rattle.interpolation.specs.Lagrange.{Fit, Based, Sides, inverse_row, w
 use rules::{Exponent, Four, Pair};
 
 // As many points as `count` says: the box that each stands at, and its pair of numbers there.
-#[derive(Drop)]
+#[derive(Clone, Copy)]
 pub struct Points {
     pub count: usize,
     pub boxes: [u16; 8],

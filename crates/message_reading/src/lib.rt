@@ -1,4 +1,6 @@
 // Readers: the tests of refusals 2 and 3, and what stands in a message that passes them.
+#![tactic(auto)]
+
 ghost use Rattle.std.specs.Prelude.{◌≡◌, ◌+◌, ◌*◌, ◌≤◌, length};
 ghost use Rattle.rules.specs.Numbers.{exponent};
 ghost use Rattle.rules.specs.Messages.{word, whole_length, malformed, foreign, end_place, matrix_in, coefficients_in, polynomials_in, four_in, pair_in};

@@ -1,6 +1,8 @@
 // Writers. One that puts numbers gets a slice and a place, and hands the place behind them back. One that writes a message
 // gets the tail of the outgoing buffer, writes the message at its front and hands its length back; the bytes behind keep
 // their values. One that writes to every box writes n messages, each directly behind the one before.
+#![tactic(auto)]
+
 ghost use Rattle.std.specs.Prelude.{[], ◌∷◌, ◌++◌, ◌+◌, ◌*◌, ◌<◌, ◌≤◌, length};
 ghost use Rattle.rules.specs.Messages.{two_bytes, matrix_bytes, coefficient_bytes, polynomial_bytes, send, saying, recovery, bytes_of, end_place, to_each};
 ghost use Rattle.rules.specs.Matrices.{zero_four};

@@ -1,5 +1,7 @@
 // What the test programs print: words and numbers, the line of an answer, and messages in hexadecimal.
 // What a box holds is in `showing`.
+#![tactic(auto)]
+
 pub mod showing;
 
 ghost use Rattle.std.specs.Prelude.{◌≤◌};

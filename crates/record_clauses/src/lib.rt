@@ -1,4 +1,6 @@
 // The clauses of a sound record that speak of each slot or of two slots.
+#![tactic(auto)]
+
 ghost use Rattle.std.specs.Prelude.{◌≡◌, ◌≤◌, ◌<◌};
 ghost use Rattle.rules.specs.Record.{slot_below, point_below, kept_below, places_keep, use_keeps, pair_keeps, entries_zero};
 ghost use Rattle.rules.specs.Laws.Numbers.{Sizes};

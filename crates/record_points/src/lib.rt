@@ -1,5 +1,7 @@
 // What a box takes from the k lowest of its points: the pair to keep and the four numbers for each box, or the recovered pair.
 // How points are gathered (`points`) and how a polynomial goes through them (`interpolation`) know nothing of each other.
+#![tactic(auto)]
+
 pub mod points;
 
 ghost use Rattle.std.specs.Prelude.{◌≡◌, ◌≤◌, take};
@@ -10,7 +12,7 @@ ghost use Rattle.record_points.specs.Points.{Lowest};
 use rules::{Exponent, Four, Keep, Pair, Place};
 
 // The pair to keep, and what goes to boxes 1 to n; box 1's stands at 0.
-#[derive(Drop)]
+#[derive(Clone, Copy)]
 pub struct Ready {
     pub pair: Pair,
     pub fours: [Four; 10],

@@ -1,4 +1,6 @@
 // Reading the record: what a place, a keep, a completion and a slot's rows hold, and the counts.
+#![tactic(auto)]
+
 ghost use Rattle.std.specs.Prelude.{◌≡◌, map, ◌≤◌};
 ghost use Rattle.rules.specs.Record.{row_at, heard_for, is_held, is_there, is_done, shares_kept, same_matrix};
 ghost use Rattle.rules.specs.Laws.Shape.{HasMark};

@@ -1,4 +1,6 @@
 // The slot of a matrix: finding it, opening it, one more point and mark in it, and what it is then due.
+#![tactic(auto)]
+
 pub mod due;
 
 ghost use Rattle.std.specs.Prelude.{◌≡◌, map, ◌≤◌, ◌<◌};

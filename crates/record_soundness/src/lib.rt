@@ -1,4 +1,6 @@
 // Whether a record is sound: document 01's sentence. Any record may come; nothing is assumed of it.
+#![tactic(auto)]
+
 pub mod clauses;
 
 ghost use Rattle.std.specs.Prelude.{◌≡◌};

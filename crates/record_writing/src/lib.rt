@@ -1,4 +1,6 @@
 // One part of the record anew, or two at once: each change is made on one copy. In `new_box`: the whole of a new one.
+#![tactic(auto)]
+
 pub mod new_box;
 
 ghost use Rattle.std.specs.Prelude.{◌≡◌, ◌<◌};

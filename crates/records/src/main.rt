@@ -1,5 +1,7 @@
 // Offers records to deliver, deal and command recovery: a line for each, with the three answer numbers. First sound records, then one
 // for each clause of soundness that breaks that clause and, where that can be, no other; last the all-zero record.
+#![tactic(auto)]
+
 mod bases;
 mod changes;
 mod lines;

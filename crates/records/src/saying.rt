@@ -3,7 +3,7 @@ ghost use Rattle.std.specs.Prelude.{◌≤◌, ◌<◌, length};
 ghost use Rattle.records.specs.Lies.{Lies};
 
 // `count` numbers stand behind the word, seven at most; the rest are 0.
-#[derive(Drop)]
+#[derive(Clone, Copy)]
 pub struct Change {
     pub letter: u8,
     pub numbers: [usize; 7],
@@ -27,7 +27,7 @@ pub fn behind(text: &[u8], from: usize, c: u8) -> usize
 }
 
 // A line: what stands behind its name, and behind the line.
-#[derive(Drop)]
+#[derive(Clone, Copy)]
 pub struct Line {
     pub behind: usize,
     pub end: usize,

@@ -1,4 +1,6 @@
 // Document 01's declared types and constants. What every call answers, leaves and writes is defined over them in specs/.
+#![tactic(auto)]
+
 ghost use Rattle.std.specs.Prelude.{◌≡◌, ◌<◌, ◌≤◌, get_or};
 ghost use Rattle.rules.specs.Numbers.{groups, no_group, echo_quorum};
 ghost use Rattle.rules.specs.Messages.{side_tag};
@@ -6,15 +8,15 @@ ghost use Rattle.rules.specs.Messages.{side_tag};
 // ---- Numbers
 
 // An exponent counts modulo q.
-#[derive(Drop)]
+#[derive(Clone, Copy)]
 pub struct Exponent(pub u16);
 
 // A group element counts modulo p.
-#[derive(Drop)]
+#[derive(Clone, Copy)]
 pub struct Element(pub u16);
 
 // A row of the table of groups.
-#[derive(Drop)]
+#[derive(Clone, Copy)]
 pub struct Group {
     pub p: u16,
     pub q: u16,
@@ -48,8 +50,8 @@ impl Group {
     }
 }
 
-// The set-up numbers, as a host hands them over: any numbers, until set-up has tested them.
-#[derive(Drop)]
+// The set_up_lem numbers, as a host hands them over: any numbers, until set_up_lem has tested them.
+#[derive(Clone, Copy)]
 pub struct SetUp {
     pub group: u32,
     pub n: u32,
@@ -89,7 +91,7 @@ impl SetUp {
 // ---- Messages, dealing and checking
 
 // A point from one box to another: α, α', β, β'.
-#[derive(Drop)]
+#[derive(Clone, Copy)]
 pub struct Four {
     pub alpha: Exponent,
     pub alpha2: Exponent,
@@ -98,7 +100,7 @@ pub struct Four {
 }
 
 // A box's polynomials a, a', b, b': coefficients lowest first, the first k in use.
-#[derive(Drop)]
+#[derive(Clone, Copy)]
 pub struct Polynomials {
     pub a: [Exponent; 8],
     pub a2: [Exponent; 8],
@@ -107,7 +109,7 @@ pub struct Polynomials {
 }
 
 // A share σ, σ', or what k of them give.
-#[derive(Drop)]
+#[derive(Clone, Copy)]
 pub struct Pair {
     pub first: Exponent,
     pub second: Exponent,
@@ -116,39 +118,39 @@ pub struct Pair {
 // ---- The record
 
 // A place for a sender is silent or holds the four numbers.
-#[derive(Drop)]
+#[derive(Clone, Copy)]
 pub enum Point {
     Silent,
     Held(Four),
 }
 
 // An array holds structs and no enums: so a sender's point stands in a place.
-#[derive(Drop)]
+#[derive(Clone, Copy)]
 pub struct Place {
     pub point: Point,
 }
 
 // A pair that is kept, or none.
-#[derive(Drop)]
+#[derive(Clone, Copy)]
 pub enum Kept {
     Absent,
     There(Pair),
 }
 
 // As a point in its place: so that an array can hold it.
-#[derive(Drop)]
+#[derive(Clone, Copy)]
 pub struct Keep {
     pub kept: Kept,
 }
 
 // A row of a matrix; the first k entries are in use.
-#[derive(Drop)]
+#[derive(Clone, Copy)]
 pub struct Row {
     pub at: [Element; 8],
 }
 
 // The two messages that carry a point, and count: an echo in e, a ready in r.
-#[derive(Drop)]
+#[derive(Clone, Copy)]
 pub enum Side {
     ByEcho,
     ByReady,
@@ -167,14 +169,14 @@ impl Side {
 }
 
 // A mark for each box; box 1 stands at 0.
-#[derive(Drop)]
+#[derive(Clone, Copy)]
 pub struct Marks {
     pub at: [bool; 10],
 }
 
 // One of the 20 numbered places for a matrix met in checked echoes or readies: its rows, its senders' places,
 // who is marked for echo and for ready, and the pair (a(0), a'(0)) kept when this box sent ready for it.
-#[derive(Drop)]
+#[derive(Clone, Copy)]
 pub struct Slot {
     pub used: bool,
     pub rows: [Row; 8],
@@ -185,14 +187,14 @@ pub struct Slot {
 }
 
 // Not completed, or completed with the matrix of a slot.
-#[derive(Drop)]
+#[derive(Clone, Copy)]
 pub enum Completion {
     NotYet,
     With(usize),
 }
 
 // What the box has done: dealt, completed, been commanded to recover.
-#[derive(Drop)]
+#[derive(Clone, Copy)]
 pub struct Progress {
     pub dealt: bool,
     pub completion: Completion,
@@ -200,7 +202,7 @@ pub struct Progress {
 }
 
 // All that a box holds between two calls.
-#[derive(Drop)]
+#[derive(Clone, Copy)]
 pub struct Record {
     pub setup: SetUp,
     pub slots: [Slot; 20],
@@ -215,7 +217,7 @@ pub struct Record {
 // ---- Answers
 
 // What an accepted call has sent.
-#[derive(Drop)]
+#[derive(Clone, Copy)]
 pub enum Sent {
     Nothing,
     Send,
@@ -225,7 +227,7 @@ pub enum Sent {
 }
 
 // The answer number; the rest is zero unless the number is 0.
-#[derive(Drop)]
+#[derive(Clone, Copy)]
 pub struct Answer {
     pub no: u8,
     pub sent: Sent,
@@ -236,7 +238,7 @@ pub struct Answer {
 }
 
 // What a call answers, and the record that the next call gets.
-#[derive(Drop)]
+#[derive(Clone, Copy)]
 pub struct Outcome {
     pub answer: Answer,
     pub next: Record,
@@ -245,7 +247,7 @@ pub struct Outcome {
 // ---- The recovery sheet
 
 // What the sheet says of a box: silent, verified, or refused with this number.
-#[derive(Drop)]
+#[derive(Clone, Copy)]
 pub enum Verdict {
     Silent,
     Verified,

@@ -1,4 +1,6 @@
-// The rules of the set-up numbers, as set-up tests them, and as every later call tests them in the record.
+// The rules of the set_up_lem numbers, as set_up_lem tests them, and as every later call tests them in the record.
+#![tactic(auto)]
+
 ghost use Rattle.std.specs.Prelude.{◌≡◌, true};
 ghost use Rattle.rules.specs.Numbers.{group_of, group_keeps, sizes_keep, is_box, numbers_keep};
 
@@ -57,7 +59,7 @@ pub fn is_box(u: SetUp, m: u32) -> bool
     m <= u.n
 }
 
-// Refusal 12 of set-up does not hold.
+// Refusal 12 of set_up_lem does not hold.
 pub fn numbers_keep_lem(u: SetUp) -> bool
     ensures { result ≡ numbers_keep u }
 {

@@ -1,4 +1,5 @@
 // The recovery sheet: reads standard input, prints what the sheet says, and says on standard error why a sheet is bad.
+#![tactic(auto)]
 
 // One byte more than a sheet may have tells that the input is too long; what is behind it is not read.
 fn main() {

@@ -52,15 +52,15 @@ module _ (b : List ℕ) (i m : ℕ) {d : Decimal} (read : d ≡ decimal_in b i) 
   no_number s = rw (line_read, s)
 
   module _ (s : d.stands ≡ true) where
-    pub other-number : (d.number ≡ m + 1 → ⊥) → box_line_keeps b i m ≡ false
-    other-number n = rw (line_read, s, ne_eqb d.number (m + 1) n)
+    pub other_number : (d.number ≡ m + 1 → ⊥) → box_line_keeps b i m ≡ false
+    other_number n = rw (line_read, s, ne_eqb d.number (m + 1) n)
 
-    pub no-space : d.number ≡ m + 1 → byte_at b d.end space ≡ false → box_line_keeps b i m ≡ false
-    no-space n e = rw (line_read, s, eq-eqb d.number (m + 1) n, e)
+    pub no_space : d.number ≡ m + 1 → byte_at b d.end space ≡ false → box_line_keeps b i m ≡ false
+    no_space n e = rw (line_read, s, eq-eqb d.number (m + 1) n, e)
 
-    pub then-says : d.number ≡ m + 1 → byte_at b d.end space ≡ true
+    pub then_says : d.number ≡ m + 1 → byte_at b d.end space ≡ true
         → box_line_keeps b i m ≡ (word_at b (d.end + 1) (text "silent\n") or numbers_at b (d.end + 1) 2)
-    then-says n e = rw (line_read, s, eq-eqb d.number (m + 1) n, e)
+    then_says n e = rw (line_read, s, eq-eqb d.number (m + 1) n, e)
 
 -- "silent" and its newline stand within the text
 pub silent_within : (b : List ℕ) (i : ℕ) → is_silent b i ≡ true → says_place b i + 7 ≤ length b

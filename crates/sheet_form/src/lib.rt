@@ -1,4 +1,6 @@
 // The parts of a sheet, read where they stand; a part is read once its form has passed.
+#![tactic(auto)]
+
 ghost use Rattle.std.specs.Prelude.{◌≡◌, true, ◌<◌};
 ghost use Rattle.rules.specs.Sheet.{
   sheet_set_up,
@@ -79,7 +81,7 @@ fn box_line_keeps(b: &[u8], i: usize, m: usize) -> bool
 }
 
 // What a box says, and where the line behind its line starts.
-#[derive(Drop)]
+#[derive(Clone, Copy)]
 struct Line {
     said: Keep,
     next: usize,

@@ -1,5 +1,7 @@
 // The recovery sheet: what a sheet prints, at the front of a lent page of 512 bytes or more. It asks for nothing: a shorter
 // page stays as it is, and the answer is 0.
+#![tactic(auto)]
+
 ghost use Rattle.std.specs.Prelude.{◌≤◌, length};
 ghost use Rattle.rules.specs.Sheet.{body_printed, Prints};
 ghost use Rattle.text.specs.Puts.{Writes};

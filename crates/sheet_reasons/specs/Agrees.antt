@@ -90,10 +90,10 @@ module _ (b : List ℕ) where
     small = le-ltb 4096 (length b) (leb-true (length b) 4096 (and_left (leb (length b) 4096) _ first))
 
     -- the rest is
-    pub rest-said : group_keeps (sheet_set_up b) ≡ true → sizes_keep (sheet_set_up b).n (sheet_set_up b).t (sheet_set_up b).k ≡ true
+    pub rest_said : group_keeps (sheet_set_up b) ≡ true → sizes_keep (sheet_set_up b).n (sheet_set_up b).t (sheet_set_up b).k ≡ true
         → rest_keeps b (sheet_set_up b).n (sheet_set_up b).k ≡ false → (printed b ≡ text "bad sheet\n") × (0 < length (bad_text (sheet_bad b)))
     unfolding printed body_printed sheet_bad rest_bad
-    rest-said g s e =
+    rest_said g s e =
         let n = (sheet_set_up b).n in
         let k = (sheet_set_up b).k in
         let m = good_lines b n k in
@@ -104,9 +104,9 @@ module _ (b : List ℕ) where
 
     -- ---- nothing is said of any other
 
-    pub refused-unsaid : group_keeps (sheet_set_up b) and sizes_keep (sheet_set_up b).n (sheet_set_up b).t (sheet_set_up b).k ≡ false → bad_text (sheet_bad b) ≡ []
+    pub refused_unsaid : group_keeps (sheet_set_up b) and sizes_keep (sheet_set_up b).n (sheet_set_up b).t (sheet_set_up b).k ≡ false → bad_text (sheet_bad b) ≡ []
     unfolding sheet_bad bad_text
-    refused-unsaid e = rw (small, first) (go (group_keeps (sheet_set_up b)) (sizes_keep (sheet_set_up b).n (sheet_set_up b).t (sheet_set_up b).k) e)
+    refused_unsaid e = rw (small, first) (go (group_keeps (sheet_set_up b)) (sizes_keep (sheet_set_up b).n (sheet_set_up b).t (sheet_set_up b).k) e)
       where
         go : (g s : Bool) → g and s ≡ false
             → bad_text (pick (not g) (bad 0 Nothing) (pick (not s) (bad 0 Nothing) (rest_bad b (sheet_set_up b).n (sheet_set_up b).k))) ≡ []
@@ -114,7 +114,7 @@ module _ (b : List ℕ) where
         go true false e = refl
         go true true e = absurd (true≢false e)
 
-    pub whole-unsaid : group_keeps (sheet_set_up b) ≡ true → sizes_keep (sheet_set_up b).n (sheet_set_up b).t (sheet_set_up b).k ≡ true
+    pub whole_unsaid : group_keeps (sheet_set_up b) ≡ true → sizes_keep (sheet_set_up b).n (sheet_set_up b).t (sheet_set_up b).k ≡ true
         → rest_keeps b (sheet_set_up b).n (sheet_set_up b).k ≡ true → bad_text (sheet_bad b) ≡ []
     unfolding sheet_bad rest_bad bad_text
-    whole-unsaid g s e = rw (small, first, g, s, e)
+    whole_unsaid g s e = rw (small, first, g, s, e)

@@ -6,7 +6,7 @@ ghost use Rattle.sheet_reasons.specs.Reasons.{Placed, front_keeps, good_lines, o
 use crate::reasons::Reason;
 
 // Its number, and what is wrong with it; 0 where no line is bad.
-#[derive(Drop)]
+#[derive(Clone, Copy)]
 pub struct Bad {
     pub line: u16,
     pub reason: Reason,

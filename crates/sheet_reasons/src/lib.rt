@@ -1,4 +1,6 @@
 // Why a sheet is bad: the first line that is not of its form, and what is wrong with it.
+#![tactic(auto)]
+
 pub mod bad;
 pub mod lines;
 pub mod reasons;

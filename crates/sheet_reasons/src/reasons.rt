@@ -10,7 +10,7 @@ ghost use Rattle.sheet_reasons.specs.Reasons.{
 };
 
 // One that is not of its line's form for any other reason has an item that is no decimal.
-#[derive(Drop)]
+#[derive(Clone, Copy)]
 pub enum Reason {
     Nothing,
     TooLong,

@@ -88,12 +88,12 @@ module _ (b : List ℕ) (i : ℕ) where
       ap (λ (p : ℕ). ltb p (length b) and is_hex_digit (get_or b p 0)) on ∙ all_below_at (hex_stands b i) (2 * n) (2 * j + r) h (omega arith))
 
   module _ (h : hex_at b i 1 ≡ true) (r : ℕ) (l : r < 2) where
-    hex-here : hex_stands b i r ≡ true
+    hex_here : hex_stands b i r ≡ true
     unfolding hex_at
-    hex-here = all_below_at (hex_stands b i) 2 r h l
+    hex_here = all_below_at (hex_stands b i) 2 r h l
 
-    pub hex-within : i + r < length b
-    hex-within = ltb-true (i + r) (length b) (and_left (ltb (i + r) (length b)) (is_hex_digit (get_or b (i + r) 0)) hex-here)
+    pub hex_within : i + r < length b
+    hex_within = ltb-true (i + r) (length b) (and_left (ltb (i + r) (length b)) (is_hex_digit (get_or b (i + r) 0)) hex_here)
 
     pub hex_digit_at : is_hex_digit (get_or b (i + r) 0) ≡ true
-    hex_digit_at = and_right (ltb (i + r) (length b)) (is_hex_digit (get_or b (i + r) 0)) hex-here
+    hex_digit_at = and_right (ltb (i + r) (length b)) (is_hex_digit (get_or b (i + r) 0)) hex_here

@@ -31,16 +31,16 @@ module _ (b : List ℕ) (i : ℕ) where
   number_place_more j = rw (add-one j)
 
   module _ (m j : ℕ) (h : numbers_at b i m ≡ true) (l : j < m) where
-    number-stands : number_stands b i m j ≡ true
+    number_stands_lem : number_stands b i m j ≡ true
     unfolding numbers_at
-    number-stands = all_below_at (number_stands b i m) m j h l
+    number_stands_lem = all_below_at (number_stands b i m) m j h l
 
-    pub number-decimal : is_decimal b (number_place b i j) ≡ true
-    number-decimal = and_left (is_decimal b (number_place b i j)) (ends_well b i m j) number-stands
+    pub number_decimal : is_decimal b (number_place b i j) ≡ true
+    number_decimal = and_left (is_decimal b (number_place b i j)) (ends_well b i m j) number_stands_lem
 
-    pub number-within : digits_end b (number_place b i j) < length b
-    number-within =
-        byte_within b (digits_end b (number_place b i j)) (behind m j) (and_right (is_decimal b (number_place b i j)) (ends_well b i m j) number-stands)
+    pub number_within : digits_end b (number_place b i j) < length b
+    number_within =
+        byte_within b (digits_end b (number_place b i j)) (behind m j) (and_right (is_decimal b (number_place b i j)) (ends_well b i m j) number_stands_lem)
 
 -- what has to stand behind number j, as the code picks it
 pub behind_is : {A B : Type 0} (j m : ℕ) {c : ℕ} → (A × (c ≡ newline)) ⊎ (B × (c ≡ space)) → (A → j + 1 ≡ m) → (B → j + 1 ≡ m → ⊥)

@@ -6,7 +6,7 @@ use Rattle.std.specs.Prelude.{List, [], ◌∷◌, ◌++◌, ◌≡◌, refl, �
 use Rattle.std.proofs.Common.{append_assoc, sym, ap, ◌∙◌, add-one, arith, length-append, take-suc, length-take-le}
 use Rattle.std.proofs.lemmas.List.Edits.{sets}
 use Rattle.std.proofs.Math.Seq.{length-sets}
-use Rattle.folds.specs.Runs.{gather, gather-zero, length-gather-more, sets_then, sets-gather, sets-front}
+use Rattle.folds.specs.Runs.{gather, gather-zero, length-gather_more, sets_then, sets-gather, sets-front}
 use Rattle.rules.specs.Messages.{written}
 
 -- these bytes from a place on, at most so many, and the place behind them
@@ -89,7 +89,7 @@ runs_none f w n at out =
 module _ {f : ℕ → List ℕ} {w n at next j : ℕ} {out₀ out : List ℕ} (h : PutRuns f w n at out₀ out next j) where
   pub runs_more : {next' : ℕ} {out' : List ℕ} → j < n → Puts out next (f j) w next' out' → PutRuns f w n at out₀ out' next' (j + 1)
   runs_more {next'} {out'} lt g =
-      let more = length-gather-more f j in
+      let more = length-gather_more f j in
       let e = g.0 in
       let r = g.1 in
       let place = h.place in

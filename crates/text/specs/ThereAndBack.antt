@@ -13,7 +13,7 @@ use Rattle.std.proofs.Math.Seq.{get_or-append_seam}
 use Rattle.std.proofs.lemmas.Bool.{lt-leb}
 use Rattle.folds.specs.Tests.{◌and◌, ◌or◌, pick, and_intro, and_false, or_left, or_right, pick-either}
 use Rattle.folds.specs.Below.{all_below_all, first_from_here, first_from_skip}
-use Rattle.folds.specs.Runs.{gather, gather-same, length-gather-le, Stands, stands_right, stands_left, stands-piece, stands_reads, Every, every_nil, every_cons, every_append, every_gather}
+use Rattle.folds.specs.Runs.{gather, gather-same, length-gather_le, Stands, stands_right, stands_left, stands_piece, stands_reads, Every, every_nil, every_cons, every_append, every_gather}
 use Rattle.rules.specs.Text.{byte_at, digit_at, digits_end, digits_say, decimal_at, digit_of, decimal}
 use Rattle.text.specs.Decimals.{decimal_in, between, true_between, digits_say_more, tests_decimal, decimal_some, piece_of, power_positive}
 use Rattle.text.specs.Hexadecimal.{is_hex_digit, hex_digit, hex_at, hex_said, hex_bytes, glyph, hex_pair, hex_of, hex_stands, hex_there}
@@ -161,7 +161,7 @@ decimal-length : (x : ℕ) → (0 < length (decimal x)) × (length (decimal x) �
 unfolding decimal
 decimal-length x =
     let four =
-    length-gather-le (piece_of x) 1
+    length-gather_le (piece_of x) 1
     (λ j. pick-either (λ (l : List ℕ). length l ≤ 1) (ltb x (10 ^ (4 - j))) [] (digit_of x (10 ^ (4 - j)) ∷ []) (λ e. omega arith) (λ e. omega arith)) 4 in
     let more = length-append (front x 4) (digit_of x 1 ∷ []) in
     (omega arith, omega arith)
@@ -265,7 +265,7 @@ module _ (x : ℕ) (byte : x < 256) where
 module _ (l : List ℕ) (p n : ℕ) (bytes : (j : ℕ) → j < n → get_or l (p + j) 0 < 256) (s : List ℕ) (i : ℕ) (h : Stands s i (hex_of l p n)) where
   two : (j : ℕ) → j < n → Stands s (i + j * 2) (hex_pair (get_or l (p + j) 0))
   unfolding hex_of
-  two j lt = stands-piece s (λ (j : ℕ). hex_pair (get_or l (p + j) 0)) 2 (λ k. refl) i n j lt h
+  two j lt = stands_piece s (λ (j : ℕ). hex_pair (get_or l (p + j) 0)) 2 (λ k. refl) i n j lt h
 
   digit_stands : (j : ℕ) → j < n → (k r : ℕ) → r < 2 → k ≡ 2 * j + r → hex_stands s i k ≡ true
   digit_stands j lt k r g e =

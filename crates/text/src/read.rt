@@ -93,7 +93,7 @@ fn digits_say(b: &[u8], i: usize, n: usize) -> u32
 }
 
 // A decimal at a place: whether one stands there, the number, and where its digits end.
-#[derive(Drop)]
+#[derive(Clone, Copy)]
 pub struct Decimal {
     pub stands: bool,
     pub number: u16,

@@ -30,12 +30,12 @@ inverted-below t =
 abbrev claims : ℕ → inverted-lts.Claims
 claims t = (inverted-below t, inverted.Post, product-reads.Asked, product-reads.Learnt)
 
-pub +inverted-spec : {M : Type 1} → statement M
-+inverted-spec = close μ-inverted λ t. inverted-lts.spec
+pub +inverted_spec : {M : Type 1} → statement M
++inverted_spec = close μ-inverted λ t. inverted-lts.spec
     (claims t)
     (inverted-at t)
     inverted.Post
-    (λ c. ap exponent (sym (inverse_small _ _ c.if1.true)))
+    (λ c. ap exponent (sym (inverse_small _ _ c.if-x-le1.true)))
     (λ c. search rules)
     (λ c. search rules)
     (λ c κs. let start = c.before.before.before.before in
@@ -43,5 +43,5 @@ pub +inverted-spec : {M : Type 1} → statement M
     (omega arith, start.requires.1))
     (λ c. div-le_self _ _)
     (λ c κs. c.before.before.before.before.before.requires.1)
-    (λ c. rw (c.product.ensures, c.before.inverted.ensures)
-    (ap exponent (sym (inverse_step _ _ c.before.before.before.before.if1.false))))
+    (λ c. rw (c.product.ensures, c.before.inverted-rest.ensures)
+    (ap exponent (sym (inverse_step _ _ c.before.before.before.before.if-x-le1.false))))

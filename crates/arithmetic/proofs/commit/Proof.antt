@@ -6,9 +6,9 @@ use Rattle.rules.specs.Dealing.{committed}
 use Rattle.arithmetic.proofs.commit.Statement.{statement}
 use Rattle.arithmetic.proofs.commit.Tie as tie
 
-pub commit-spec : {M : Type 1} → statement M
+pub commit_spec : {M : Type 1} → statement M
 unfolding committed
-commit-spec =
+commit_spec =
     tie.close
     (found3 tie.spec (search rules)
-    (λ c. rw (c.times.ensures, c.before.power2.ensures, c.before.before.power.ensures) (simp mods)))
+    (λ c. rw (c.times.ensures, c.before.power-2.ensures, c.before.before.power.ensures) (simp mods)))

@@ -41,35 +41,35 @@ module _ (p b : ℕ) where
       ∙ ap (λ t. t % p) (sym (mul-one m) ∙ ap (λ t. m * t) (sym (pow-zero b) ∙ ap (λ t. b ^ t) (sym none)))
       ∙ h
 
-abbrev invariant-loop : tie.invariant-loop
-invariant-loop p base₀ left₀ made₀ base left made =
+abbrev invariant-loop-left : tie.invariant-loop-left
+invariant-loop-left p base₀ left₀ made₀ base left made =
     (made.0 < p) × ((made.0 * base.0 ^ left) % p ≡ base₀.0 ^ left₀ % p)
 
-abbrev decreases-loop : tie.decreases-loop
-decreases-loop p base₀ left₀ made₀ base left made = left
+abbrev decreases-loop-left : tie.decreases-loop-left
+decreases-loop-left p base₀ left₀ made₀ base left made = left
 
-loop-again : tie.Need-loop-preserved invariant-loop decreases-loop
+loop-again : tie.Need-loop-left-preserved invariant-loop-left decreases-loop-left
 loop-again c =
-    let inv = c.before.before.before.loop.invariant in
+    let inv = c.before.before.before.loop-left.invariant in
     ⊎_elim
     (λ w.
-    rw (w.2, w.1.ensures, c.times2.ensures)
+    rw (w.2, w.1.ensures, c.times-base.ensures)
     (mod-lt _ c.before.before.before.before.requires, odd _ _ _ _ w.0.taken ∙ inv.1))
-    (λ w. rw (w.1, c.times2.ensures) (inv.0, even _ _ _ _ w.0.left ∙ inv.1))
-    c.before.if1.branch
+    (λ w. rw (w.1, c.times-base.ensures) (inv.0, even _ _ _ _ w.0.left ∙ inv.1))
+    c.before.if-left-eq1.branch
 
-pub power-spec : {M : Type 1} → statement M
-power-spec =
+pub power_spec : {M : Type 1} → statement M
+power_spec =
     tie.close
     (tie.spec
-    invariant-loop
-    decreases-loop
+    invariant-loop-left
+    decreases-loop-left
     (λ c. search rules)
     (λ c. (mod-lt 1 c.requires, mod-mul-mod 1 _ _ ∙ ap (λ t. t % c.args.p) (one-mul _)))
     (λ c κs. search rules)
     (λ c κs. search rules)
-    (λ c. div-lt_self c.before.before.loop-test.true (omega arith))
+    (λ c. div-lt_self c.before.before.loop-left-test.true (omega arith))
     loop-again
-    (λ c. let inv = c.before.loop.invariant in
-    let none : c.before.loop.left ≡ 0 = omega arith in
+    (λ c. let inv = c.before.loop-left.invariant in
+    let none : c.before.loop-left.left ≡ 0 = omega arith in
     ap element (all_made _ _ _ _ _ none inv.0 inv.1)))

@@ -5,5 +5,5 @@ use Rattle.rules.specs.Numbers.{exponent}
 use Rattle.arithmetic.proofs.product.Statement.{statement}
 use Rattle.arithmetic.proofs.product.Tie as tie
 
-pub product-spec : {M : Type 1} → statement M
-product-spec = tie.close (tie.spec (λ c κs. search rules) (λ c. ap exponent c.product-modulo.ensures))
+pub product_spec : {M : Type 1} → statement M
+product_spec = tie.close (tie.spec (λ c κs. search rules) (λ c. ap exponent c.product_modulo.ensures))

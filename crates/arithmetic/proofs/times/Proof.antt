@@ -5,5 +5,5 @@ use Rattle.rules.specs.Numbers.{element}
 use Rattle.arithmetic.proofs.times.Statement.{statement}
 use Rattle.arithmetic.proofs.times.Tie as tie
 
-pub times-spec : {M : Type 1} → statement M
-times-spec = tie.close (tie.spec (λ c κs. search rules) (λ c. ap element c.product-modulo.ensures))
+pub times_spec : {M : Type 1} → statement M
+times_spec = tie.close (tie.spec (λ c κs. search rules) (λ c. ap element c.product_modulo.ensures))

@@ -7,25 +7,25 @@ use Rattle.box_step.specs.Takes.{accepts, refuses}
 use Rattle.box_calls.proofs.command_recovery.Statement.{statement}
 use Rattle.box_calls.proofs.command_recovery.Tie as tie
 
-refuses-now : tie.Need-returns
+refuses-now : tie.Need-returns-then-no-ne0
 unfolding recover
 refuses-now c =
-    let tested = c.before in refuses _ _ _ _ tested.before.recover.ensures tested.if1.true c.refuse.ensures
+    let tested = c.before in refuses _ _ _ _ tested.before.recover-no.ensures tested.if-no-ne0.true c.refuse.ensures
 
-accepts-now : tie.Need-returns-2
+accepts-now : tie.Need-returns
 unfolding recover
 accepts-now c =
     let tested = c.before.before.before.before.before in
-    accepts _ _ _ _ tested.before.recover.ensures tested.if1.false c.before.before.before.take-command.ensures c.accept.ensures
+    accepts _ _ _ _ tested.before.recover-no.ensures tested.if-no-ne0.false c.before.before.before.take_command.ensures c.accept.ensures
 
-pub command-recovery-spec : {M : Type 1} → statement M
-command-recovery-spec =
+pub command_recovery_spec : {M : Type 1} → statement M
+command_recovery_spec =
     tie.close
     (tie.spec
     (λ c κs. search rules)
     (λ c κs. search rules)
     refuses-now
-    (λ c κs. let tested = c.before in recover_passed _ _ (sym tested.before.recover.ensures ∙ tested.if1.false))
+    (λ c κs. let tested = c.before in recover_passed _ _ (sym tested.before.recover-no.ensures ∙ tested.if-no-ne0.false))
     (λ c κs. search rules)
     (λ c. search rules)
     accepts-now)

@@ -1,4 +1,4 @@
--- `set_up` answers a set-up by its rows. Assumes nothing.
+-- `set_up` answers a set_up_lem by its rows. Assumes nothing.
 use mathlib.Core.Path.{◌≡◌, ap, ◌∙◌}
 use mathlib.Core.Logic.{◌≢◌}
 use Prim.Native.Nat.{ℕ}
@@ -12,7 +12,7 @@ use Rattle.box_step.specs.Told.{quietly, told}
 use Rattle.box_calls.proofs.set_up.Statement.{statement}
 use Rattle.box_calls.proofs.set_up.Tie as tie
 
--- a set-up by the number of its first row
+-- a set_up_lem by the number of its first row
 module _ (u : SetUp) {n : ℕ} (is : n ≡ first_of (set_up_rows u)) where
   refuses : n ≢ 0 → refused n zero_record ≡ set_up u
   unfolding set_up outcome_of
@@ -22,23 +22,23 @@ module _ (u : SetUp) {n : ℕ} (is : n ≡ first_of (set_up_rows u)) where
   unfolding set_up outcome_of
   accepts none = rw (← is, eq-eqb n 0 none)
 
-refuses-now : tie.Need-returns
+refuses-now : tie.Need-returns-then-no-ne0
 refuses-now c =
     let tested = c.before.before in
     c.refuse.ensures
-    ∙ ap (refused _) c.before.zero-record.ensures
-    ∙ refuses tested.before.before.args.u tested.before.set-up.ensures tested.if1.true
+    ∙ ap (refused _) c.before.zero_record.ensures
+    ∙ refuses tested.before.before.args.u tested.before.set_up-no.ensures tested.if-no-ne0.true
 
-accepts-now : tie.Need-returns-2
+accepts-now : tie.Need-returns
 unfolding accepted
 accepts-now c =
     let tested = c.before.before.before in
     c.accept.ensures
-    ∙ ap told (c.before.quiet.ensures ∙ ap quietly c.before.before.new-record.ensures)
-    ∙ accepts tested.before.before.args.u tested.before.set-up.ensures tested.if1.false
+    ∙ ap told (c.before.quiet.ensures ∙ ap quietly c.before.before.new_record.ensures)
+    ∙ accepts tested.before.before.args.u tested.before.set_up-no.ensures tested.if-no-ne0.false
 
-pub set-up-spec : {M : Type 1} → statement M
-set-up-spec =
+pub set_up_spec : {M : Type 1} → statement M
+set_up_spec =
     tie.close
     (tie.spec
     (λ c κs. search rules)

@@ -9,49 +9,49 @@ use Rattle.box_hearing.specs.Known.{point_keeps}
 use Rattle.box_hearing.proofs.exponents_keep.Statement.{statement}
 use Rattle.box_hearing.proofs.exponents_keep.Tie as tie
 
-send : tie.Need-returns
+send : tie.Need-returns-then-tag-eq1
 send c =
     let read = c.before.before in
     let tested = read.before in
     let a = tested.before.before.before.before.args in
-    c.polynomials-below.ensures
-    ∙ ap₂ (λ (G : Group) P. polynomials_below G.q a.u.k P) tested.before.before.Group-of.ensures read.read-polynomials.ensures
-    ∙ sym (ap (exponents_keep a.u) (is_send_lem a.u a.bytes.now tested.if1.taken))
+    c.polynomials_below.ensures
+    ∙ ap₂ (λ (G : Group) P. polynomials_below G.q a.u.k P) tested.before.before.Group-of.ensures read.read_polynomials-all.ensures
+    ∙ sym (ap (exponents_keep a.u) (is_send_lem a.u a.bytes.now tested.if-tag-eq1.taken))
 
-share : tie.Need-returns-2
+share : tie.Need-returns-then-tag-eq4
 share c =
     let read = c.before in
     let tested = read.before in
     let grouped = tested.before.before.before in
     let a = grouped.before.before.args in
-    c.pair_below_lem.ensures
-    ∙ ap₂ (λ (G : Group) s. pair_below G.q s) grouped.Group-of.ensures read.read-pair.ensures
-    ∙ sym (ap (exponents_keep a.u) (is_recovery_lem a.u a.bytes.now tested.if2.taken))
+    c.pair_below.ensures
+    ∙ ap₂ (λ (G : Group) s. pair_below G.q s) grouped.Group-of.ensures read.read_pair-pair.ensures
+    ∙ sym (ap (exponents_keep a.u) (is_recovery_lem a.u a.bytes.now tested.if-tag-eq4.taken))
 
-point : tie.Need-returns-3
+point : tie.Need-returns
 point c =
     let read = c.before in
     let tested = read.before in
     let grouped = tested.before.before.before in
     let start = grouped.before.before in
-    c.four_below.ensures
-    ∙ ap₂ (λ (G : Group) f. four_below G.q f) grouped.Group-of.ensures read.read-four.ensures
-    ∙ sym (point_keeps start.pre.form tested.before.if1.left tested.if2.left)
+    c.four_below_lem.ensures
+    ∙ ap₂ (λ (G : Group) f. four_below G.q f) grouped.Group-of.ensures read.read_four-four.ensures
+    ∙ sym (point_keeps start.pre.form tested.before.if-tag-eq1.left tested.if-tag-eq4.left)
 
-pub exponents-keep-spec : {M : Type 1} → statement M
-exponents-keep-spec =
+pub exponents_keep_spec : {M : Type 1} → statement M
+exponents_keep_spec =
     tie.close
     (tie.spec
     (λ c κs. search rules)
     (λ c. search rules)
-    (λ c κs. let pre = c.before.before.before.before.pre in (pre.ranges.high, send_long pre.form c.if1.taken))
+    (λ c κs. let pre = c.before.before.before.before.pre in (pre.ranges.high, send_long pre.form c.if-tag-eq1.taken))
     (λ c. search rules)
     (λ c κs. search rules)
     send
-    (λ c κs. share_long c.before.before.before.before.before.pre.form c.if2.taken)
+    (λ c κs. share_long c.before.before.before.before.before.pre.form c.if-tag-eq4.taken)
     (λ c κs. search rules)
     share
     (λ c κs. let pre = c.before.before.before.before.before.pre in
-    (pre.ranges.high, point_long pre.form c.before.if1.left c.if2.left))
+    (pre.ranges.high, point_long pre.form c.before.if-tag-eq1.left c.if-tag-eq4.left))
     (λ c κs. search rules)
     point)

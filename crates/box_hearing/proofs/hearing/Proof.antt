@@ -8,49 +8,49 @@ use Rattle.box_hearing.specs.Known.{matrix_fails, readable}
 use Rattle.box_hearing.proofs.hearing.Statement.{statement}
 use Rattle.box_hearing.proofs.hearing.Tie as tie
 
-row_8 : tie.Need-returns
+row_8 : tie.Need-returns-then-matrix_fails
 unfolding first_row hearing_rows matrix_fails
-row_8 c = rw (sym c.before.matrix-fails.ensures ∙ c.if1.true)
+row_8 c = rw (sym c.before.matrix_fails.ensures ∙ c.if-matrix_fails.true)
 
-row_9 : tie.Need-returns-2
+row_9 : tie.Need-returns-then-not-exponents_keep
 unfolding first_row hearing_rows matrix_fails
 row_9 c =
     let first = c.before.before in
-    rw (sym first.before.matrix-fails.ensures ∙ first.if1.false, failed c.before.exponents-keep.ensures c.if2.true)
+    rw (sym first.before.matrix_fails.ensures ∙ first.if-matrix_fails.false, failed c.before.exponents_keep.ensures c.if-not-exponents_keep.true)
 
-checks-out-requires : tie.Need-checks-out-requires
+checks-out-requires : tie.Need-checks_out-requires
 unfolding matrix_fails has_matrix
 checks-out-requires c κs =
     let first = c.before.before in
     record {
       hearing = first.before.before.before.before.requires;
-      passes = λ l. not-false _ (and_rest _ _ (sym first.before.matrix-fails.ensures ∙ first.if1.false) (le-leb _ 3 l));
+      passes = λ l. not-false _ (and_rest _ _ (sym first.before.matrix_fails.ensures ∙ first.if-matrix_fails.false) (le-leb _ 3 l));
     }
 
-row_10 : tie.Need-returns-3
+row_10 : tie.Need-returns-then-not-checks_out
 unfolding first_row hearing_rows matrix_fails
 row_10 c =
     let second = c.before.before in
     let first = second.before.before in
     rw (
-      sym first.before.matrix-fails.ensures ∙ first.if1.false,
-      passed second.before.exponents-keep.ensures second.if2.false,
-      failed c.before.checks-out.ensures c.if3.true,
+      sym first.before.matrix_fails.ensures ∙ first.if-matrix_fails.false,
+      passed second.before.exponents_keep.ensures second.if-not-exponents_keep.false,
+      failed c.before.checks_out.ensures c.if-not-checks_out.true,
     )
 
-none : tie.Need-returns-4
+none : tie.Need-returns
 unfolding first_row hearing_rows matrix_fails
 none c =
     let second = c.before.before in
     let first = second.before.before in
     rw (
-      sym first.before.matrix-fails.ensures ∙ first.if1.false,
-      passed second.before.exponents-keep.ensures second.if2.false,
-      passed c.before.checks-out.ensures c.if3.false,
+      sym first.before.matrix_fails.ensures ∙ first.if-matrix_fails.false,
+      passed second.before.exponents_keep.ensures second.if-not-exponents_keep.false,
+      passed c.before.checks_out.ensures c.if-not-checks_out.false,
     )
 
-pub hearing-spec : {M : Type 1} → statement M
-hearing-spec =
+pub hearing_spec : {M : Type 1} → statement M
+hearing_spec =
     tie.close
     (tie.spec
     (λ c κs. readable c.before.before.requires)

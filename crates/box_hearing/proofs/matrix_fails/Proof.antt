@@ -11,31 +11,31 @@ use Rattle.box_hearing.specs.Known.{matrix_fails, group_ranges}
 use Rattle.box_hearing.proofs.matrix_fails.Statement.{statement}
 use Rattle.box_hearing.proofs.matrix_fails.Tie as tie
 
-none : tie.Need-returns
+none : tie.Need-returns-then-bytes-gt3
 unfolding matrix_fails has_matrix
-none c = rw (lt-leb _ 3 c.if1.taken)
+none c = rw (lt-leb _ 3 c.if-bytes-gt3.taken)
 
-read-matrix-requires : tie.Need-read-matrix-requires
+read-matrix-requires : tie.Need-read_matrix-c-requires
 read-matrix-requires c κs =
     let start = c.before.before.before.before in
-    (start.pre.ranges.high, matrix_long start.pre.form (λ e. omega (arith, e, c.before.if1.left)))
+    (start.pre.ranges.high, matrix_long start.pre.form (λ e. omega (arith, e, c.before.if-bytes-gt3.left)))
 
-matrix-passes-requires : tie.Need-matrix-passes-requires
+matrix-passes-requires : tie.Need-matrix_passes-requires
 matrix-passes-requires c κs =
     let pre = c.before.before.before.before.before.before.pre in
     ((group_ranges pre.ranges c.before.before.Group-of.ensures).modulus, pre.ranges.high)
 
-returns : tie.Need-returns-2
+returns : tie.Need-returns
 unfolding matrix_fails has_matrix
 returns c =
     let read = c.before.before in
     let a = c.before.before.before.before.before.before.before.args in
-    rw (le-leb _ 3 read.before.before.if1.left)
-    (ap not (c.matrix-passes.ensures
-    ∙ ap₂ (λ G C. matrix_passes G a.u.k C) read.before.Group-of.ensures read.read-matrix.ensures))
+    rw (le-leb _ 3 read.before.before.if-bytes-gt3.left)
+    (ap not (c.matrix_passes.ensures
+    ∙ ap₂ (λ G C. matrix_passes G a.u.k C) read.before.Group-of.ensures read.read_matrix-c.ensures))
 
-pub matrix-fails-spec : {M : Type 1} → statement M
-matrix-fails-spec =
+pub matrix_fails_spec : {M : Type 1} → statement M
+matrix_fails_spec =
     tie.close
     (tie.spec
     (λ c. search rules)

@@ -10,20 +10,20 @@ use Rattle.box_hearing.proofs.share_passes.Statement.{statement}
 use Rattle.box_hearing.proofs.share_passes.Tie as tie
 
 -- the completed slot is one of the twenty
-within : tie.Need-element-copy-out-slot
+within : tie.Need-bounds-x-s
 within c =
     let start = c.before.before.before.before.before.before in
-    ((sound_facts start.args.t1 start.requires).progress.completion _ c.before.completion.given.1).within
+    ((sound_facts start.args.t1 start.requires).progress-1.completion _ c.before.completion-1.given.1).within
 
 -- and its matrix passed refusal 8
-share-check-requires : tie.Need-share-check-requires
+share-check-requires : tie.Need-share_check-requires
 unfolding matrix_of
 share-check-requires c κs =
     let known = c.before.before.before.before.before in
     let start = known.before.before.before.before.before in
     let x = start.args.t1 in
     let facts = sound_facts x start.requires in
-    let completed = facts.progress.completion _ known.completion.given.1 in
+    let completed = facts.progress-1.completion _ known.completion-1.given.1 in
     let group = known.before.before.before.Group-of.ensures in
     let r = sound_ranges x start.requires in
     let g = group_ranges r group in
@@ -31,25 +31,25 @@ share-check-requires c κs =
       modulus = g.modulus;
       order = g.some;
       high = r.high;
-      passes = rw (group, c.before.matrix-of.ensures) ((facts.slots.each _ completed.within).contents.passes completed.used);
+      passes = rw (group, c.before.matrix_of-c.ensures) ((facts.slots.each _ completed.within).contents.passes completed.used);
     }
 
-not_yet : tie.Need-returns
+not_yet : tie.Need-returns-in-NotYet
 not_yet c =
     let a = c.before.before.before.before.before.args in
-    ap (λ d. share_checks a.t1 d a.number a.pair) (sym c.enum_told.given.1)
+    ap (λ d. share_checks a.t1 d a.number a.pair) (sym c.enum_told-1.given.1)
 
-returns : tie.Need-returns-2
+returns : tie.Need-returns-in-With
 unfolding matrix_of
 returns c =
     let known = c.before.before.before.before.before.before in
     let grouped = known.before.before.before in
     let a = grouped.before.before.args in
-    let told = ap (λ d. share_checks a.t1 d a.number a.pair) known.completion.given.1 in
-    rw (told, ← grouped.Group-of.ensures, ← c.before.before.matrix-of.ensures) c.share-check.ensures
+    let told = ap (λ d. share_checks a.t1 d a.number a.pair) known.completion-1.given.1 in
+    rw (told, ← grouped.Group-of.ensures, ← c.before.before.matrix_of-c.ensures) c.share_check.ensures
 
-pub share-passes-spec : {M : Type 1} → statement M
-share-passes-spec =
+pub share_passes_spec : {M : Type 1} → statement M
+share_passes_spec =
     tie.close
     (tie.spec
     (λ c κs. (sound_ranges _ c.before.requires).group)

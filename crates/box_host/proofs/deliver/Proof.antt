@@ -58,7 +58,7 @@ use Rattle.box_lent.specs.contracts.deliver_in as deliver-in
 use Rattle.box_lent.proofs.deliver_in.Symbol as deliver-in-def
 use Rattle.box_lent.proofs.deliver_in.Symbol.{name as #deliver-in}
 use Rattle.box_lent.proofs.deliver_in.Met as deliver-in-thm
-use Rattle.box_lent.proofs.Values.{record_val, outcome_val, record_tells, answer_tells, answer_is, is_outcome, record_ty, answer_ty, outcome_ty, record_makes, outcome_makes, record-typed, answer_typed, outcome-typed}
+use Rattle.box_lent.proofs.Values.{record_val, outcome_val, record_tells, answer_tells, answer_is, is_outcome, record_ty, answer_ty, outcome_ty, record_makes, outcome_makes, record_typed, answer_typed, outcome_typed}
 use Rattle.box_host.specs.contracts.deliver.Key.{name as #deliver}
 use Rattle.box_host.specs.contracts.deliver as deliver
 use Rattle.box_host.proofs.deliver.Statement as stated
@@ -218,7 +218,7 @@ module _ {M : Type 1} {𝓤 : Ura M} (𝓛 : Logic 𝓤) (at_mem : Memory → SP
         enter ! C Λ code.function (record_val x ∷ vint w32 sender ∷ bytesVal ∷ outVal ∷ []) _ $
         alloc1 ! (λ l₀. alloc1 ! (λ l₁. alloc1 ! (λ l₂. alloc1 ! (λ l₃. alloc1 ! (λ l₄. alloc1 ! (λ l₅. alloc1 ! (λ l₆.
         alloc1 ! (λ l₇. alloc1 ! (λ l₈. alloc1 ! (λ l₉. alloc1 ! (λ l₁₀. alloc0 ! $ params1 ! $
-        pass1 ! (init ! 18 refl (record-typed 𝓛 x (record_val x ∷ []) is_x).0) $
+        pass1 ! (init ! 18 refl (record_typed 𝓛 x (record_val x ∷ []) is_x).0) $
         pass1 ! (init ! 16 refl (tt, record { fits = fits })) $
         pass1 ! (init ! 14 refl ((shr_slice_Lawful 𝓛 (named 0) κ₁ u8).typed bytes (bytesVal ∷ []) p).0) $
         pass1 ! (init ! 12 refl (tt, (tt, (record { fits = room.0 }, tt)))) $ pass0 ! $
@@ -226,7 +226,7 @@ module _ {M : Type 1} {𝓤 : Ura M} (𝓛 : Logic 𝓤) (at_mem : Memory → SP
         --  parameters own]
         -- `held`, a reference to it, and `out` lent on
         assigns ! (of_opd ! (load ! (from ! (stop !)) (look ! 18 refl))) (from ! (stop !))
-        (init ! 10 refl (record-typed 𝓛 x (record_val x ∷ []) is_x).0) $
+        (init ! 10 refl (record_typed 𝓛 x (record_val x ∷ []) is_x).0) $
         assigns ! (addr ! (from ! (stop !))) (from ! (stop !)) (init ! 6 refl (tt, tt)) $
         assigns ! (addr ! (from ! (fld ! refl (hop ! (look_in ! 12 (sub ! 0 refl (whole !))) (stop !)))))
         (from ! (stop !)) (init ! 4 refl (tt, tt)) $
@@ -269,11 +269,11 @@ module _ {M : Type 1} {𝓤 : Ura M} (𝓛 : Logic 𝓤) (at_mem : Memory → SP
         -- [what the record owns; _5; the tokens; what the answer owns; the last bytes; true; Bytes; room for _10; …; _9; …; _8; …;
         --  _7; …; _6; …; the end of _5; _4; …; _3; …; _2; …; _1; …; room for _0; …]
         assigns ! (of_opd ! (load ! (from ! (stop !)) (look ! 1 refl))) (from ! (stop !))
-        (init ! 7 refl (record-typed 𝓛 zs.0 (record_val zs.0 ∷ []) is_y).0) $
+        (init ! 7 refl (record_typed 𝓛 zs.0 (record_val zs.0 ∷ []) is_y).0) $
         assigns ! (agg ! (and_then ! (load ! (from ! (stop !)) (look ! 15 refl)) (and_then ! (load ! (from ! (stop !)) (look ! 7 refl)) (no_more !))))
         (from ! (stop !))
         (init ! 26 {τ = outcome_ty} {b = l₀} {o = 0} {v = outcome_val (outcome a zs.0)} refl
-        (outcome-typed 𝓛 (outcome a zs.0) (outcome_val (outcome a zs.0) ∷ []) (whole_is a w zs.0 is-a is_y)).0) $
+        (outcome_typed 𝓛 (outcome a zs.0) (outcome_val (outcome a zs.0) ∷ []) (whole_is a w zs.0 is-a is_y)).0) $
         -- the outcome is returned, and the locals are freed
         returns ! (look ! 26 refl) $
         forget ! 1 refl $ forget ! 7 refl $ forget ! 9 refl $ forget ! 11 refl $ forget ! 13 refl $ forget ! 15 refl $
@@ -326,9 +326,9 @@ deliver-meets {𝓤 = 𝓤} 𝓛 mem run 𝓣 known =
     (WpFn 𝓤 𝓛.H 𝓣.C 𝓣.Λ code.function) (WpFn-mono 𝓤 𝓛.H 𝓛.laws 𝓣 code.function)
     (deliver-walks 𝓛 mem run 𝓣.C 𝓣.Λ (fm_of 𝓤 𝓛.H 𝓛.laws 𝓣) known)
 
-pub deliver-spec : {M : Type 1} → stated.statement M
+pub deliver_spec : {M : Type 1} → stated.statement M
 unfolding code.routine tables_of
-deliver-spec 𝓤 𝓛 𝓜 𝓡 =
+deliver_spec 𝓤 𝓛 𝓜 𝓡 =
     entered 𝓤 𝓛.H (triple_of 𝓛 deliver.signature (deliver.spec 𝓛 𝓜.mem 𝓡.run))
     (tables 𝓤 𝓛.H 𝓜 𝓡 code.env).C (tables 𝓤 𝓛.H 𝓜 𝓡 code.env).Λ #deliver code.function (code.unfolded 𝓤 𝓛.H 𝓜 𝓡)
     (deliver-meets 𝓛 𝓜.mem 𝓡.run (tables_of 𝓤 𝓛.H 𝓜 (tables 𝓤 𝓛.H 𝓜 𝓡 code.env))

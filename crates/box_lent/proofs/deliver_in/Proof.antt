@@ -56,7 +56,7 @@ use Rattle.box_calls.specs.contracts.deliver as deliver
 use Rattle.box_calls.proofs.deliver.Symbol as deliver-def
 use Rattle.box_calls.proofs.deliver.Symbol.{name as #deliver}
 use Rattle.box_calls.proofs.deliver.Met as deliver-thm
-use Rattle.box_lent.proofs.Values.{record_val, answer_val, record_tells, outcome_tells, is_answer, is_next, record_ty, answer_ty, outcome_ty, outcome_parts, next_start, answer_at, next_at, record_makes, answer_makes, record-typed, answer_typed, outcome-typed}
+use Rattle.box_lent.proofs.Values.{record_val, answer_val, record_tells, outcome_tells, is_answer, is_next, record_ty, answer_ty, outcome_ty, outcome_parts, next_start, answer_at, next_at, record_makes, answer_makes, record_typed, answer_typed, outcome_typed}
 use Rattle.box_lent.specs.contracts.deliver_in.Key.{name as #deliver-in}
 use Rattle.box_lent.specs.contracts.deliver_in as deliver-in
 use Rattle.box_lent.proofs.deliver_in.Statement as stated
@@ -197,7 +197,7 @@ module _ {M : Type 1} {𝓤 : Ura M} (𝓛 : Logic 𝓤) (at_mem : Memory → SP
         --  _4; …; _3; …; _2; …; _1; …; room for _0; …]
         -- the copy `*x`, and `out` lent on
         assigns ! (of_opd ! (load ! (from ! (hop ! (look ! 21 refl) (stop !))) (look ! 0 refl)))
-        (from ! (stop !)) (init ! 11 refl (record-typed 𝓛 x (record_val x ∷ []) is_x).0) $
+        (from ! (stop !)) (init ! 11 refl (record_typed 𝓛 x (record_val x ∷ []) is_x).0) $
         assigns ! (addr ! (from ! (fld ! refl (hop ! (look_in ! 15 (sub ! 0 refl (whole !))) (stop !)))))
         (from ! (stop !)) (init ! 9 refl (tt, tt)) $
         assigns ! (agg ! (and_then ! (load ! (from ! (stop !)) (look ! 9 refl))
@@ -219,7 +219,7 @@ module _ {M : Type 1} {𝓤 : Ura M} (𝓛 : Logic 𝓤) (at_mem : Memory → SP
         -- [the last bytes; true; the tokens and the outcome; Bytes; the record's cell; …]
         move ! (2 ∷ []) $ split ! $ move ! (1 ∷ []) $
         peeks ! O.the_row (Is O.the_row) (shows 𝓛 O.the_row) c (w ∷ []) (λ is.
-        land ! (from ! (stop !)) (init ! 16 refl (outcome-typed 𝓛 c (w ∷ []) is).0) $
+        land ! (from ! (stop !)) (init ! 16 refl (outcome_typed 𝓛 c (w ∷ []) is).0) $
         rewrite ! 16 (λ (u : Val). ‵ (fat full_share outcome_ty l₅ 0 u)) (ap only (outcome_tells c (w ∷ []) is)) refl $
         -- [the outcome; the tokens; the last bytes; true; Bytes; the record's cell; what it owned; the open loan; obs; auth;
         --  _8; …; _7; …; _6; …; _5; …; _4; …; _3; …; _2; …; _1; …; room for _0; …]
@@ -227,7 +227,7 @@ module _ {M : Type 1} {𝓤 : Ura M} (𝓛 : Logic 𝓤) (at_mem : Memory → SP
         assigns ! (of_opd ! (load ! (from ! (fld ! {τ = record_ty} {d = next_start} next_at (stop !)))
         (look_in ! 16 (sub ! {τs = outcome_parts} 1 {τ = record_ty} {d = next_start} next_at (whole !)))))
         (from ! (hop ! (look ! 24 refl) (stop !)))
-        (store_in ! 5 (whole !) (record-typed 𝓛 c.next (record_val c.next ∷ []) (is_next c (w ∷ []) is)).0) $
+        (store_in ! 5 (whole !) (record_typed 𝓛 c.next (record_val c.next ∷ []) (is_next c (w ∷ []) is)).0) $
         -- `o.answer`
         assigns ! (of_opd ! (load ! (from ! (fld ! {τ = answer_ty} {d = 0} answer_at (stop !)))
         (look_in ! 16 (sub ! {τs = outcome_parts} 0 {τ = answer_ty} {d = 0} answer_at (whole !)))))
@@ -290,9 +290,9 @@ deliver-in-meets {𝓤 = 𝓤} 𝓛 mem run 𝓣 known =
     (WpFn 𝓤 𝓛.H 𝓣.C 𝓣.Λ code.function) (WpFn-mono 𝓤 𝓛.H 𝓛.laws 𝓣 code.function)
     (deliver-in-walks 𝓛 mem run 𝓣.C 𝓣.Λ (fm_of 𝓤 𝓛.H 𝓛.laws 𝓣) known)
 
-pub deliver-in-spec : {M : Type 1} → stated.statement M
+pub deliver_in_spec : {M : Type 1} → stated.statement M
 unfolding code.routine tables_of
-deliver-in-spec 𝓤 𝓛 𝓜 𝓡 =
+deliver_in_spec 𝓤 𝓛 𝓜 𝓡 =
     entered 𝓤 𝓛.H (triple_of 𝓛 deliver-in.signature (deliver-in.spec 𝓛 𝓜.mem 𝓡.run))
     (tables 𝓤 𝓛.H 𝓜 𝓡 code.env).C (tables 𝓤 𝓛.H 𝓜 𝓡 code.env).Λ #deliver-in code.function (code.unfolded 𝓤 𝓛.H 𝓜 𝓡)
     (deliver-in-meets 𝓛 𝓜.mem 𝓡.run (tables_of 𝓤 𝓛.H 𝓜 (tables 𝓤 𝓛.H 𝓜 𝓡 code.env))

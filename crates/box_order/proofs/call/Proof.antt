@@ -6,17 +6,17 @@ use Rattle.rules.specs.Answers.{first_row, call_rows}
 use Rattle.box_order.proofs.call.Statement.{statement}
 use Rattle.box_order.proofs.call.Tie as tie
 
-row-15 : tie.Need-returns
+row-15 : tie.Need-returns-then-lent-lt-LENT
 unfolding first_row call_rows
-row-15 c = rw (lt-ltb _ _ c.if1.true)
+row-15 c = rw (lt-ltb _ _ c.if-lent-lt-LENT.true)
 
-row-12 : tie.Need-returns-2
+row-12 : tie.Need-returns-then-not-is_sound
 unfolding first_row call_rows
-row-12 c = rw (le-ltb _ _ c.before.before.if1.false, failed c.before.is_sound.ensures c.if2.true)
+row-12 c = rw (le-ltb _ _ c.before.before.if-lent-lt-LENT.false, failed c.before.is_sound.ensures c.if-not-is_sound.true)
 
-none : tie.Need-returns-3
+none : tie.Need-returns
 unfolding first_row call_rows
-none c = rw (le-ltb _ _ c.before.before.if1.false, passed c.before.is_sound.ensures c.if2.false)
+none c = rw (le-ltb _ _ c.before.before.if-lent-lt-LENT.false, passed c.before.is_sound.ensures c.if-not-is_sound.false)
 
-pub call-spec : {M : Type 1} → statement M
-call-spec = tie.close (tie.spec row-15 (λ c κs. search rules) row-12 none)
+pub call_spec : {M : Type 1} → statement M
+call_spec = tie.close (tie.spec row-15 (λ c κs. search rules) row-12 none)

@@ -7,14 +7,14 @@ use Rattle.box_order.specs.Known.{ranges_called}
 use Rattle.box_order.proofs.deal.Statement.{statement}
 use Rattle.box_order.proofs.deal.Tie as tie
 
-stopped : tie.Need-returns
+stopped : tie.Need-returns-then-no-ne0
 unfolding deal_rows
-stopped c = stops _ _ (call_numbered _ _) c.before.call.ensures c.if1.true
+stopped c = stops _ _ (call_numbered _ _) c.before.call-no.ensures c.if-no-ne0.true
 
-own : tie.Need-returns-2
+own : tie.Need-returns
 unfolding deal_rows
-own c = goes_on (call_rows _ _) _ (call_numbered _ _) c.before.before.call.ensures c.before.if1.false c.deal.ensures
+own c = goes_on (call_rows _ _) _ (call_numbered _ _) c.before.before.call-no.ensures c.before.if-no-ne0.false c.deal.ensures
 
-pub deal-spec : {M : Type 1} → statement M
-deal-spec =
-    tie.close (tie.spec (λ c κs. search rules) stopped (λ c κs. ranges_called _ _ c.before.call.ensures c.if1.false) own)
+pub deal_spec : {M : Type 1} → statement M
+deal_spec =
+    tie.close (tie.spec (λ c κs. search rules) stopped (λ c κs. ranges_called _ _ c.before.call-no.ensures c.if-no-ne0.false) own)

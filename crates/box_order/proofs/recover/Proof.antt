@@ -6,13 +6,13 @@ use Rattle.rules.specs.Laws.Passed.{call_numbered}
 use Rattle.box_order.proofs.recover.Statement.{statement}
 use Rattle.box_order.proofs.recover.Tie as tie
 
-stopped : tie.Need-returns
+stopped : tie.Need-returns-then-no-ne0
 unfolding recover_rows
-stopped c = stops _ _ (call_numbered _ _) c.before.call.ensures c.if1.true
+stopped c = stops _ _ (call_numbered _ _) c.before.call-no.ensures c.if-no-ne0.true
 
-own : tie.Need-returns-2
+own : tie.Need-returns
 unfolding recover_rows
-own c = goes_on (call_rows _ _) _ (call_numbered _ _) c.before.before.call.ensures c.before.if1.false c.recover.ensures
+own c = goes_on (call_rows _ _) _ (call_numbered _ _) c.before.before.call-no.ensures c.before.if-no-ne0.false c.recover.ensures
 
-pub recover-spec : {M : Type 1} → statement M
-recover-spec = tie.close (tie.spec (λ c κs. search rules) stopped (λ c κs. search rules) own)
+pub recover_spec : {M : Type 1} → statement M
+recover_spec = tie.close (tie.spec (λ c κs. search rules) stopped (λ c κs. search rules) own)

@@ -7,46 +7,46 @@ use Rattle.rules.specs.Laws.RoundTrip.{header}
 use Rattle.box_refusals.proofs.form.Statement.{statement}
 use Rattle.box_refusals.proofs.form.Tie as tie
 
-row_1 : tie.Need-returns
+row_1 : tie.Need-returns-then-not-is_box
 unfolding first_row form_rows
-row_1 c = rw (failed c.before.is-box.ensures c.if1.true)
+row_1 c = rw (failed c.before.is_box.ensures c.if-not-is_box.true)
 
-row-2 : tie.Need-returns-2
+row-2 : tie.Need-returns-then-is_malformed
 unfolding first_row form_rows
 row-2 c =
     let first = c.before.before in
-    rw (passed first.before.is-box.ensures first.if1.false, sym c.before.is-malformed.ensures ∙ c.if2.true)
+    rw (passed first.before.is_box.ensures first.if-not-is_box.false, sym c.before.is_malformed.ensures ∙ c.if-is_malformed.true)
 
-row_3 : tie.Need-returns-3
+row_3 : tie.Need-returns-then-is_foreign
 unfolding first_row form_rows
 row_3 c =
     let second = c.before.before in
     let first = second.before.before in
     rw (
-      passed first.before.is-box.ensures first.if1.false,
-      sym second.before.is-malformed.ensures ∙ second.if2.false,
-      sym c.before.is-foreign.ensures ∙ c.if3.true,
+      passed first.before.is_box.ensures first.if-not-is_box.false,
+      sym second.before.is_malformed.ensures ∙ second.if-is_malformed.false,
+      sym c.before.is_foreign.ensures ∙ c.if-is_foreign.true,
     )
 
-none : tie.Need-returns-4
+none : tie.Need-returns
 unfolding first_row form_rows
 none c =
     let second = c.before.before in
     let first = second.before.before in
     rw (
-      passed first.before.is-box.ensures first.if1.false,
-      sym second.before.is-malformed.ensures ∙ second.if2.false,
-      sym c.before.is-foreign.ensures ∙ c.if3.false,
+      passed first.before.is_box.ensures first.if-not-is_box.false,
+      sym second.before.is_malformed.ensures ∙ second.if-is_malformed.false,
+      sym c.before.is_foreign.ensures ∙ c.if-is_foreign.false,
     )
 
-pub form-spec : {M : Type 1} → statement M
-form-spec =
+pub form_spec : {M : Type 1} → statement M
+form_spec =
     tie.close
     (tie.spec
     (λ c κs. search rules)
     row_1
     (λ c κs. search rules)
     row-2
-    (λ c κs. header _ _ (sym c.before.is-malformed.ensures ∙ c.if2.false))
+    (λ c κs. header _ _ (sym c.before.is_malformed.ensures ∙ c.if-is_malformed.false))
     row_3
     none)

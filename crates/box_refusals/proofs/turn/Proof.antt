@@ -15,80 +15,80 @@ use Rattle.box_refusals.proofs.turn.Statement.{statement}
 use Rattle.box_refusals.proofs.turn.Tie as tie
 
 -- the rows that do not hold, each where its test was left
-abbrev start1 : tie.Joined1 → tie.Start
+abbrev start1 : tie.Joined-else-tag-eq1 → tie.Start
 start1 c = c.before.before.before.before
 
-left-4 : (c : tie.Joined1) → let a = (start1 c).args in eqb (tag_in a.bytes.now) 1 and not (eqb a.sender a.x.setup.d) ≡ false
-left-4 c = ⊎_elim (λ w. rw (eq-eqb _ _ w.0.taken, w.2.left)) (λ w. rw (ne_eqb _ _ w.left)) c.if1.came
+left-4 : (c : tie.Joined-else-tag-eq1) → let a = (start1 c).args in eqb (tag_in a.bytes.now) 1 and not (eqb a.sender a.x.setup.d) ≡ false
+left-4 c = ⊎_elim (λ w. rw (eq-eqb _ _ w.0.taken, w.2.left)) (λ w. rw (ne_eqb _ _ w.left)) c.if-tag-eq1.came
 
-abbrev start3 : tie.Joined3 → tie.Start
+abbrev start3 : tie.Joined-is_done → tie.Start
 start3 c = start1 c.before.before.before
 
 -- the box has completed and been commanded
-recovering : (c : tie.Joined3) → let p = (start3 c).args.x.progress in c.if3.recovering ≡ is_done p.completion and p.commanded
+recovering : (c : tie.Joined-is_done) → let p = (start3 c).args.x.progress in c.if-is_done.recovering ≡ is_done p.completion and p.commanded
 recovering c =
-    let ended = c.before.is-done.ensures in
-    ⊎_elim (λ w. rw (sym ended ∙ w.0.taken) w.1) (λ w. rw (sym ended ∙ w.0.left) (w.1 ∙ w.0.left)) c.if3.came
+    let ended = c.before.is_done.ensures in
+    ⊎_elim (λ w. rw (sym ended ∙ w.0.taken) w.1) (λ w. rw (sym ended ∙ w.0.left) (w.1 ∙ w.0.left)) c.if-is_done.came
 
-abbrev start4 : tie.Joined4 → tie.Start
+abbrev start4 : tie.Joined-else-tag-eq4 → tie.Start
 start4 c = start3 c.before
 
-left-5 : (c : tie.Joined4)
+left-5 : (c : tie.Joined-else-tag-eq4)
     → let a = (start4 c).args in
     eqb (tag_in a.bytes.now) 4 and not (is_done a.x.progress.completion and a.x.progress.commanded) ≡ false
 left-5 c =
     ⊎_elim (λ w. rw (eq-eqb _ _ w.0.taken, passed (recovering c.before) w.1.left)) (λ w. rw (ne_eqb _ _ w.left))
-    c.if4.came
+    c.if-tag-eq4.came
 
-abbrev start6 : tie.Joined6 → tie.Start
+abbrev start6 : tie.Joined-else-tag-eq4-2 → tie.Start
 start6 c = start4 c.before.before
 
-left-6 : (c : tie.Joined6) → let a = (start6 c).args in eqb (tag_in a.bytes.now) 4 and is_there a.x.recovered.kept ≡ false
+left-6 : (c : tie.Joined-else-tag-eq4-2) → let a = (start6 c).args in eqb (tag_in a.bytes.now) 4 and is_there a.x.recovered.kept ≡ false
 left-6 c =
-    ⊎_elim (λ w. rw (eq-eqb _ _ w.0.taken, sym w.1.ensures ∙ w.2.left)) (λ w. rw (ne_eqb _ _ w.left)) c.if6.came
+    ⊎_elim (λ w. rw (eq-eqb _ _ w.0.taken, sym w.1.ensures ∙ w.2.left)) (λ w. rw (ne_eqb _ _ w.left)) c.if-tag-eq4-2.came
 
-row_4 : tie.Need-returns
+row_4 : tie.Need-returns-then-sender-u
 unfolding first_row turn_rows
-row_4 c = rw (eq-eqb _ _ c.before.before.if1.taken, c.if2.taken)
+row_4 c = rw (eq-eqb _ _ c.before.before.if-tag-eq1.taken, c.if-sender-u.taken)
 
-row_5 : tie.Need-returns-2
+row_5 : tie.Need-returns-then-not-recovering
 unfolding first_row turn_rows
 row_5 c =
     let fifth = c.before in
     rw
-    (left-4 fifth.before.before.before.before, eq-eqb _ _ fifth.if4.taken, failed (recovering fifth.before) c.if5.taken)
+    (left-4 fifth.before.before.before.before, eq-eqb _ _ fifth.if-tag-eq4.taken, failed (recovering fifth.before) c.if-not-recovering.taken)
 
-row-6 : tie.Need-returns-3
+row-6 : tie.Need-returns-then-is_there
 unfolding first_row turn_rows
 row-6 c =
     let fifth = c.before.before.before.before in
     rw (
       left-4 fifth.before.before.before.before,
       left-5 fifth,
-      eq-eqb _ _ c.before.before.if6.taken,
-      sym c.before.is-there.ensures ∙ c.if7.taken,
+      eq-eqb _ _ c.before.before.if-tag-eq4-2.taken,
+      sym c.before.is_there.ensures ∙ c.if-is_there.taken,
     )
 
-row-7 : tie.Need-returns-4
+row-7 : tie.Need-returns-then-is_heard
 unfolding first_row turn_rows
 row-7 c =
     let sixth = c.before.before in
     let fifth = sixth.before.before in
     rw
-    (left-4 fifth.before.before.before.before, left-5 fifth, left-6 sixth, sym c.before.is-heard.ensures ∙ c.if8.taken)
+    (left-4 fifth.before.before.before.before, left-5 fifth, left-6 sixth, sym c.before.is_heard.ensures ∙ c.if-is_heard.taken)
 
-none : tie.Need-returns-5
+none : tie.Need-returns
 unfolding first_row turn_rows
 none c =
     let sixth = c.before.before in
     let fifth = sixth.before.before in
     rw
-    (left-4 fifth.before.before.before.before, left-5 fifth, left-6 sixth, sym c.before.is-heard.ensures ∙ c.if8.left)
+    (left-4 fifth.before.before.before.before, left-5 fifth, left-6 sixth, sym c.before.is_heard.ensures ∙ c.if-is_heard.left)
 
-sub-m : tie.Need-sub-m
+sub-m : tie.Need-overflow_sub-m
 sub-m c = (is_box_lem _ _ (start6 c).pre.box).0
 
-is-heard-requires : tie.Need-is-heard-requires
+is-heard-requires : tie.Need-is_heard-requires
 is-heard-requires c κs =
     let p = (start6 c).pre in
     let b = is_box_lem _ _ p.box in

@@ -4,7 +4,7 @@ use Rattle.box_step.proofs.accept.Statement.{statement}
 use Rattle.box_step.proofs.accept.Tie as tie
 
 returns : tie.Need-returns
-returns c = rw (c.before.pair-told.ensures, c.before.before.is-there.ensures)
+returns c = rw (c.before.pair_told-pair.ensures, c.before.before.is_there-recovered.ensures)
 
-pub accept-spec : {M : Type 1} → statement M
-accept-spec = tie.close (tie.spec (λ c κs. search rules) (λ c κs. search rules) returns)
+pub accept_spec : {M : Type 1} → statement M
+accept_spec = tie.close (tie.spec (λ c κs. search rules) (λ c κs. search rules) returns)

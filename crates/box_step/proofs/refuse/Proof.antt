@@ -6,7 +6,7 @@ use Rattle.box_step.proofs.refuse.Tie as tie
 
 returns : tie.Need-returns
 unfolding refused
-returns c = rw c.no_pair_lem.ensures
+returns c = rw c.no_pair-pair.ensures
 
-pub refuse-spec : {M : Type 1} → statement M
-refuse-spec = tie.close (tie.spec (λ c κs. search rules) returns)
+pub refuse_spec : {M : Type 1} → statement M
+refuse_spec = tie.close (tie.spec (λ c κs. search rules) returns)

@@ -7,7 +7,7 @@ use Rattle.box_steps.proofs.complete.Tie as tie
 
 returns : tie.Need-returns
 unfolding made completed
-returns c = rw (c.completed-with.ensures, c.before.is-done.ensures)
+returns c = rw (c.completed_with-after.ensures, c.before.is_done-before.ensures)
 
-pub complete-spec : {M : Type 1} → statement M
-complete-spec = tie.close (tie.spec (λ c κs. search rules) (λ c κs. search rules) returns)
+pub complete_spec : {M : Type 1} → statement M
+complete_spec = tie.close (tie.spec (λ c κs. search rules) (λ c κs. search rules) returns)

@@ -8,7 +8,7 @@ use lib.Seq.{take_all}
 use borrow.Author.Rules.{rules}
 use borrow.Author.Tests.{eq-eqb, ne_eqb}
 use Rattle.folds.specs.Tests.{pick}
-use Rattle.folds.specs.Runs.{length-gather-count}
+use Rattle.folds.specs.Runs.{length-gather_count}
 use Rattle.rules.specs.declared.Keep.{Keep}
 use Rattle.rules.specs.declared.Kept.{Kept}
 use Rattle.rules.specs.declared.Kept.TheVariants.{Absent, There}
@@ -24,7 +24,7 @@ use Rattle.box_steps.proofs.recovering.Tie as tie
 length-sharePoints : (keeps : List Keep) → length (share_points keeps) ≡ shares_kept keeps
 unfolding share_points shares_kept
 length-sharePoints keeps =
-    length-gather-count (λ m. kept_at m (share_at keeps m)) (λ m. is_there (share_at keeps m)) (λ m. one m (share_at keeps m)) 10
+    length-gather_count (λ m. kept_at m (share_at keeps m)) (λ m. is_there (share_at keeps m)) (λ m. one m (share_at keeps m)) 10
   where
     one : (m : ℕ) (kept : Kept) → length (kept_at m kept) ≡ pick (is_there kept) 1 0
     one m Absent = refl
@@ -34,29 +34,29 @@ length-sharePoints keeps =
 all-taken : (keeps : List Keep) (k : ℕ) → shares_kept keeps ≡ k → take k (share_points keeps) ≡ share_points keeps
 all-taken keeps k e = take_all k (share_points keeps) (omega (arith, length-sharePoints keeps))
 
-recovers : tie.Need-returns
+recovers : tie.Need-returns-then-count_shares-u
 unfolding made recovering
 recovers c =
     let grouped = c.before.before.before in
     let counted = grouped.before.before.before in
     let a = counted.before.before.args in
-    let all : shares_kept a.shares ≡ a.x.setup.k = sym counted.count-shares.ensures ∙ grouped.before.if1.true in
+    let all : shares_kept a.shares ≡ a.x.setup.k = sym counted.count_shares.ensures ∙ grouped.before.if-count_shares-u.true in
     let found =
-    c.before.recovered-from.ensures
+    c.before.recovered_from-found.ensures
     ∙ ap₂ (λ G. recovered_from G.q) grouped.Group-of.ensures (all-taken a.shares a.x.setup.k all) in
-    rw (c.with-shares.ensures, found, eq-eqb _ _ all)
+    rw (c.with_shares-after.ensures, found, eq-eqb _ _ all)
 
-rests : tie.Need-returns-2
+rests : tie.Need-returns
 unfolding made recovering
 rests c =
     let left = c.before.before.before in
     let counted = left.before.before in
     let a = counted.before.before.args in
-    let few : shares_kept a.shares ≡ a.x.setup.k → ⊥ = λ e. left.if1.false (counted.count-shares.ensures ∙ e) in
-    rw (ne_eqb _ _ few) (c.quiet.ensures ∙ ap quietly c.before.with-shares2.ensures)
+    let few : shares_kept a.shares ≡ a.x.setup.k → ⊥ = λ e. left.if-count_shares-u.false (counted.count_shares.ensures ∙ e) in
+    rw (ne_eqb _ _ few) (c.quiet.ensures ∙ ap quietly c.before.with_shares.ensures)
 
-pub recovering-spec : {M : Type 1} → statement M
-recovering-spec =
+pub recovering_spec : {M : Type 1} → statement M
+recovering_spec =
     tie.close
     (tie.spec
     (λ c κs. search rules)

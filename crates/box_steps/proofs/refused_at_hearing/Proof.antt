@@ -9,11 +9,11 @@ use Rattle.rules.specs.Laws.Sound.{sound_ranges}
 use Rattle.box_steps.proofs.refused_at_hearing.Statement.{statement}
 use Rattle.box_steps.proofs.refused_at_hearing.Tie as tie
 
-share : tie.Need-returns
+share : tie.Need-returns-then-tag-eq4
 unfolding refusal_heard has_matrix
-share c = let a = c.before.before.before.args in rw (lt-leb (tag_in a.bytes.now) 3 (omega (arith, c.if1.true)))
+share c = let a = c.before.before.before.args in rw (lt-leb (tag_in a.bytes.now) 3 (omega (arith, c.if-tag-eq4.true)))
 
-heard-for-requires : tie.Need-heard-for-requires
+heard-for-requires : tie.Need-heard_for-requires
 heard-for-requires c κs =
     let p = c.before.before.before.requires in
     record {
@@ -22,14 +22,14 @@ heard-for-requires c κs =
       place = omega (arith, p.within, (sound_ranges _ p.is_sound).boxes);
     }
 
-matrix : tie.Need-returns-2
+matrix : tie.Need-returns
 unfolding refusal_heard has_matrix
 matrix c =
     let start = c.before.before.before.before in
-    rw (le-leb (tag_in start.args.bytes.now) 3 (omega (arith, start.requires.form.high, c.before.if1.false))) c.heard-for.ensures
+    rw (le-leb (tag_in start.args.bytes.now) 3 (omega (arith, start.requires.form.high, c.before.if-tag-eq4.false))) c.heard_for.ensures
 
-pub refused-at-hearing-spec : {M : Type 1} → statement M
-refused-at-hearing-spec =
+pub refused_at_hearing_spec : {M : Type 1} → statement M
+refused_at_hearing_spec =
     tie.close
     (tie.spec
     (λ c. search rules)

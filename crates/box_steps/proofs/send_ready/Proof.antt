@@ -13,7 +13,7 @@ use Rattle.box_steps.specs.Laws.{tells, ranges, place, group_ranges, can_send, e
 use Rattle.box_steps.proofs.send_ready.Statement.{statement}
 use Rattle.box_steps.proofs.send_ready.Tie as tie
 
-abbrev start : tie.After-ready-from → tie.Start
+abbrev start : tie.After-ready_from-ready → tie.Start
 start c = c.before.before.before.before.before.before.before
 
 returns : tie.Need-returns
@@ -26,16 +26,16 @@ returns c =
     let ps = take u.k (points a.fresh.places) in
     let group = made.before.before.before.before.Group-of.ensures in
     let kept =
-    c.before.before.with_pair.ensures
-    ∙ ap (keeping a.fresh) (made.ready-from.ensures.0 ∙ ap (λ G. pair_from G.q ps) group) in
-    let fours = made.ready-from.ensures.1 ∙ ap (λ G. to_boxes u.n zero_four (ready_four G.q ps)) group in
+    c.before.before.with_pair-kept.ensures
+    ∙ ap (keeping a.fresh) (made.ready_from-ready.ensures.0 ∙ ap (λ G. pair_from G.q ps) group) in
+    let fours = made.ready_from-ready.ensures.1 ∙ ap (λ G. to_boxes u.n zero_four (ready_four G.q ps)) group in
     tells Ready c.sending.ensures
-    (c.before.heard-at-slot.ensures ∙ ap (with_slot (heard a.x (side_tag a.side) a.m) a.s) kept)
+    (c.before.heard_at_slot.ensures ∙ ap (with_slot (heard a.x (side_tag a.side) a.m) a.s) kept)
     (each_written u (saying ByReady) zero_four zero_four _ (ranges (start made).requires.0.here).boxes
-    wrote.before.before.before.matrix-of.ensures fours wrote.write-points.ensures)
+    wrote.before.before.before.matrix_of-c.ensures fours wrote.write_points-bytes.ensures)
 
-pub send-ready-spec : {M : Type 1} → statement M
-send-ready-spec =
+pub send_ready_spec : {M : Type 1} → statement M
+send_ready_spec =
     tie.close
     (tie.spec
     (λ c κs. (ranges c.before.before.requires.0.here).group)

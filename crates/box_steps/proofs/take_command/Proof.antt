@@ -11,8 +11,8 @@ returns : tie.Need-returns
 unfolding recover_step commanded_after
 returns c =
     let commanded = c.before in
-    tells Recovery c.sending.ensures commanded.commanded.ensures commanded.before.before.before.write-own-share.ensures
+    tells Recovery c.sending.ensures commanded.commanded.ensures commanded.before.before.before.write_own_share-bytes.ensures
 
-pub take-command-spec : {M : Type 1} → statement M
-take-command-spec =
+pub take_command_spec : {M : Type 1} → statement M
+take_command_spec =
     tie.close (tie.spec (λ c κs. search rules) (λ c κs. search rules) (λ c κs. search rules) (λ c. search rules) returns)

@@ -18,17 +18,17 @@ use Rattle.box_steps.specs.Laws.{tells, group_ranges, can_send, CoinRanges, coin
 use Rattle.box_steps.proofs.take_deal.Statement.{statement}
 use Rattle.box_steps.proofs.take_deal.Tie as tie
 
--- the ranges of the set-up numbers, and those of the secret and the coins
+-- the ranges of the set_up_lem numbers, and those of the secret and the coins
 numbers : (c : tie.Start) → Ranges c.args.x.setup
 numbers c = sound_ranges _ c.requires.called.is_sound
 
 coins : (c : tie.Start) → CoinRanges c.args.x.setup c.args.secret c.args.coins.now
 coins c = coin_ranges _ _ _ (omega (arith, (numbers c).low)) c.requires.keeps
 
-abbrev start : tie.After-group-of → tie.Start
+abbrev start : tie.After-group_of-group → tie.Start
 start c = c.before.before.before.before.before
 
-cast-secret : tie.Need-overflow-cast-from-coins
+cast-secret : tie.Need-overflow_cast-secret
 cast-secret c = omega (arith, (coins (start c)).below, (numbers (start c)).numbers.small)
 
 returns : tie.Need-returns
@@ -40,21 +40,21 @@ returns c =
     let a = (start grouped).args in
     let u = a.x.setup in
     let group = grouped.Group-of.ensures in
-    let one = committed.before.before.from-coins in
-    let two = committed.before.from-coins2 in
+    let one = committed.before.before.from_coins-f in
+    let two = committed.before.from_coins-f2 in
     let matrix =
-    committed.commit-all.ensures
+    committed.commit_all-c.ensures
     ∙ ap (λ G. commitment G u.k one.result two.result) group
     ∙ ap₂ (commitment (group_in a.x) u.k) one.ensures two.ensures in
     let all =
-    wrote.before.before.polynomials-for-all.ensures
+    wrote.before.before.polynomials_for_all-all.ensures
     ∙ ap (λ G. to_boxes u.n zero_polynomials (polynomials_of G.q u.k one.result two.result)) group
     ∙ ap₂ (λ f f'. to_boxes u.n zero_polynomials (polynomials_of (group_in a.x).q u.k f f')) one.ensures two.ensures in
     tells Send c.sending.ensures c.before.dealt.ensures
-    (each_written u send zero_polynomials no_polynomials _ (numbers (start grouped)).boxes matrix all wrote.write-sends.ensures)
+    (each_written u send zero_polynomials no_polynomials _ (numbers (start grouped)).boxes matrix all wrote.write_sends-bytes.ensures)
 
-pub take-deal-spec : {M : Type 1} → statement M
-take-deal-spec =
+pub take_deal_spec : {M : Type 1} → statement M
+take_deal_spec =
     tie.close
     (tie.spec
     (λ c. search rules)

@@ -13,67 +13,67 @@ use Rattle.box_steps.proofs.take_point.Statement.{statement}
 use Rattle.box_steps.proofs.take_point.Tie as tie
 
 -- the slot is one of the twenty
-within : (c : tie.After-slot-for) → c.slot-for.result < 20
+within : (c : tie.After-slot_for-s) → c.slot_for-s.result < 20
 within c =
     let start = c.before.before in
     let a = start.args in
     let here = start.requires.0.here in
-    rw c.slot-for.ensures
+    rw c.slot_for-s.ensures
     (room a.t2 a.m a.c here.is_sound here.sender a.side (side_hears a.side a.t2 a.m start.requires.1)).within
 
 -- the record with the sender heard
 abbrev marked : tie.Start → Record
 marked c = heard c.args.t2 (side_tag c.args.side) c.args.m
 
-abbrev found : tie.After-with-point → tie.After-slot-for
+abbrev found : tie.After-with_point-fresh → tie.After-slot_for-s
 found c = c.before.before.before
 
-abbrev start : tie.After-with-point → tie.Start
+abbrev start : tie.After-with_point-fresh → tie.Start
 start c = (found c).before.before
 
 -- the step goes by the slot as it now is
-goes : (c : tie.After-with-point)
+goes : (c : tie.After-with_point-fresh)
     → let a = (start c).args in
-    point_step a.side (marked (start c)) a.m a.c a.four ≡ point_at a.side (marked (start c)) (found c).slot-for.result c.with-point.result
+    point_step a.side (marked (start c)) a.m a.c a.four ≡ point_at a.side (marked (start c)) (found c).slot_for-s.result c.with_point-fresh.result
 unfolding heard
 goes c =
     let a = (start c).args in
     point_at_lem a.side (marked (start c)) a.m a.c a.four
-    ((found c).slot-for.ensures ∙ heard_slot a.t2 (side_tag a.side) a.m a.c)
-    (c.with-point.ensures ∙ ap (λ slot. taken a.side slot a.m a.four) c.before.opened-for.ensures)
+    ((found c).slot_for-s.ensures ∙ heard_slot a.t2 (side_tag a.side) a.m a.c)
+    (c.with_point-fresh.ensures ∙ ap (λ slot. taken a.side slot a.m a.four) c.before.opened_for-open.ensures)
 
-sends : tie.Need-returns
+sends : tie.Need-returns-then-ready_due
 unfolding heard
 sends c =
     let due = c.before.before.before.before.before in
     let fresh = due.before.before in
-    takes_as (goes fresh ∙ point_sends _ _ _ _ (sym due.ready-due.ensures ∙ c.before.before.before.before.if1.true))
-    c.before.before.send-ready.ensures
+    takes_as (goes fresh ∙ point_sends _ _ _ _ (sym due.ready_due.ensures ∙ c.before.before.before.before.if-ready_due.true))
+    c.before.before.send_ready.ensures
 
-completes : tie.Need-returns-2
+completes : tie.Need-returns-then-completion_due
 unfolding heard completed
 completes c =
     let ended = c.before.before in
     let due = ended.before.before in
     let fresh = due.before.before.before in
     let a = (start fresh).args in
-    let next = ended.before.heard-at-slot.ensures in
+    let next = ended.before.heard_at_slot-next.ensures in
     takes_as
-    (goes fresh ∙ point_completes _ _ _ _ (sym due.before.ready-due.ensures ∙ due.if1.false) (sym ended.completion-due.ensures ∙ c.before.if2.true))
-    (still _ _ refl (c.complete.ensures ∙ ap (λ y. made (completed y (found fresh).slot-for.result)) next))
+    (goes fresh ∙ point_completes _ _ _ _ (sym due.before.ready_due.ensures ∙ due.if-ready_due.false) (sym ended.completion_due.ensures ∙ c.before.if-completion_due.true))
+    (still _ _ refl (c.complete.ensures ∙ ap (λ y. made (completed y (found fresh).slot_for-s.result)) next))
 
-rests-now : tie.Need-returns-3
+rests-now : tie.Need-returns
 unfolding heard
 rests-now c =
     let ended = c.before.before in
     let due = ended.before.before in
     let fresh = due.before.before.before in
     takes_as
-    (goes fresh ∙ point_rests _ _ _ _ (sym due.before.ready-due.ensures ∙ due.if1.false) (sym ended.completion-due.ensures ∙ c.before.if2.false))
-    (rests _ c.quiet.ensures ended.before.heard-at-slot.ensures)
+    (goes fresh ∙ point_rests _ _ _ _ (sym due.before.ready_due.ensures ∙ due.if-ready_due.false) (sym ended.completion_due.ensures ∙ c.before.if-completion_due.false))
+    (rests _ c.quiet.ensures ended.before.heard_at_slot-next.ensures)
 
-pub take-point-spec : {M : Type 1} → statement M
-take-point-spec =
+pub take_point_spec : {M : Type 1} → statement M
+take_point_spec =
     tie.close
     (tie.spec
     (λ c κs. (ranges c.before.requires.0.here).high)

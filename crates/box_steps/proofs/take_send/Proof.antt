@@ -21,13 +21,13 @@ returns c =
     let a = start.args in
     let u = a.x.setup in
     let fours =
-    made.echo-fours.ensures
+    made.echo_fours-fours.ensures
     ∙ ap (λ G. to_boxes u.n zero_four (echo_four G.q u.k a.all)) grouped.Group-of.ensures in
-    tells Echo c.sending.ensures c.before.heard-for.ensures
-    (each_written u (saying ByEcho) zero_four zero_four _ (ranges start.requires.here).boxes refl fours wrote.write-points.ensures)
+    tells Echo c.sending.ensures c.before.heard_for.ensures
+    (each_written u (saying ByEcho) zero_four zero_four _ (ranges start.requires.here).boxes refl fours wrote.write_points-bytes.ensures)
 
-pub take-send-spec : {M : Type 1} → statement M
-take-send-spec =
+pub take_send_spec : {M : Type 1} → statement M
+take_send_spec =
     tie.close
     (tie.spec
     (λ c κs. (ranges c.before.before.requires.here).group)

@@ -12,14 +12,14 @@ returns : tie.Need-returns
 unfolding share_step heard
 returns c =
     let a = c.before.before.before.args in
-    c.recovering.ensures ∙ ap (λ y. made (recovering y (sharing a.x a.m a.pair))) c.before.heard-for.ensures
+    c.recovering.ensures ∙ ap (λ y. made (recovering y (sharing a.x a.m a.pair))) c.before.heard_for.ensures
 
 recovering-requires : tie.Need-recovering-requires
 unfolding heard
-recovering-requires c κs = rw c.heard-for.ensures (ranges c.before.before.requires)
+recovering-requires c κs = rw c.heard_for.ensures (ranges c.before.before.requires)
 
-pub take-share-spec : {M : Type 1} → statement M
-take-share-spec =
+pub take_share_spec : {M : Type 1} → statement M
+take_share_spec =
     tie.close
     (tie.spec
     (λ c. search rules)

@@ -10,45 +10,45 @@ use Rattle.box_steps.specs.Laws.{can_send}
 use Rattle.box_steps.proofs.write_own_share.Statement.{statement}
 use Rattle.box_steps.proofs.write_own_share.Tie as tie
 
-abbrev start : tie.After-completion → tie.Start
+abbrev start : tie.In-With-2 → tie.Start
 start c = c.before.before.before.before.before
 
 -- the completed slot is one of the twenty
-within : tie.Need-element-copy-out-slot
+within : tie.Need-bounds-x-s
 within c =
     let s = start c.before in
-    ((sound_facts s.args.t2 s.pre.called.is_sound).progress.completion _ c.before.completion.given.1).within
+    ((sound_facts s.args.t2 s.pre.called.is_sound).progress-1.completion _ c.before.completion-1.given.1).within
 
-not_yet : tie.Need-returns
+not_yet : tie.Need-returns-in-NotYet
 unfolding written
 not_yet c =
     let a = c.before.before.before.before.before.args in
-    let none = ap (λ d. share_bytes a.t2.setup (completed_share a.t2 d)) c.enum_told.given.1 in
-    record { counted = ap length (sym none); front = ap (λ b. written b a.out.now) (sym none) }
+    let none = ap (λ d. share_bytes a.t2.setup (completed_share a.t2 d)) c.enum_told-1.given.1 in
+    record { counted = ap length (sym none); front = ap (λ b. written b a.out-1.now) (sym none) }
 
-absent : tie.Need-returns-2
+absent : tie.Need-returns-in-Absent
 unfolding written
 absent c =
     let known = c.before.before.before.before.before in
     let a = (start known).args in
     let none =
-    ap (λ d. share_bytes a.t2.setup (completed_share a.t2 d)) known.completion.given.1
-    ∙ ap (share_bytes a.t2.setup) c.enum-told2.given.1 in
-    record { counted = ap length (sym none); front = ap (λ b. written b a.out.now) (sym none) }
+    ap (λ d. share_bytes a.t2.setup (completed_share a.t2 d)) known.completion-1.given.1
+    ∙ ap (share_bytes a.t2.setup) c.enum_told-in-Absent-1.given.1 in
+    record { counted = ap length (sym none); front = ap (λ b. written b a.out-1.now) (sym none) }
 
-there : tie.Need-returns-3
+there : tie.Need-returns-in-There
 there c =
     let wrote = c.before.before in
     let held = wrote.before.before.before in
     let known = held.before.before.before.before.before in
     let a = (start known).args in
     let bytes =
-    ap (λ d. share_bytes a.t2.setup (completed_share a.t2 d)) known.completion.given.1
-    ∙ ap (share_bytes a.t2.setup) held.kept.given.1 in
-    rw (sym bytes) at wrote.write-shares.ensures
+    ap (λ d. share_bytes a.t2.setup (completed_share a.t2 d)) known.completion-1.given.1
+    ∙ ap (share_bytes a.t2.setup) held.kept-1.given.1 in
+    rw (sym bytes) at wrote.write_shares.ensures
 
-pub write-own-share-spec : {M : Type 1} → statement M
-write-own-share-spec =
+pub write_own_share_spec : {M : Type 1} → statement M
+write_own_share_spec =
     tie.close
     (tie.spec
     (λ c. search rules)

@@ -4,6 +4,6 @@ use Rattle.rules.specs.Dealing.{αEquation}
 use Rattle.checking.proofs.alpha_equation.Statement.{statement}
 use Rattle.checking.proofs.alpha_equation.Tie as tie
 
-pub alpha-equation-spec : {M : Type 1} → statement M
+pub alpha_equation_spec : {M : Type 1} → statement M
 unfolding αEquation
-alpha-equation-spec = tie.close (tie.spec (λ c κs. search rules) (λ c. search rules))
+alpha_equation_spec = tie.close (tie.spec (λ c κs. search rules) (λ c. search rules))

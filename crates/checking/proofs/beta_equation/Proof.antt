@@ -4,6 +4,6 @@ use Rattle.rules.specs.Dealing.{βEquation}
 use Rattle.checking.proofs.beta_equation.Statement.{statement}
 use Rattle.checking.proofs.beta_equation.Tie as tie
 
-pub beta-equation-spec : {M : Type 1} → statement M
+pub beta_equation_spec : {M : Type 1} → statement M
 unfolding βEquation
-beta-equation-spec = tie.close (tie.spec (λ c κs. search rules) (λ c. search rules))
+beta_equation_spec = tie.close (tie.spec (λ c κs. search rules) (λ c. search rules))

@@ -13,23 +13,23 @@ use Rattle.folds.specs.Loops.{all_fails, all_passed}
 use Rattle.checking.proofs.coefficients_below.Statement.{statement}
 use Rattle.checking.proofs.coefficients_below.Tie as tie
 
-abbrev invariant-loop : tie.invariant-loop
-invariant-loop q k a l₀ l = all_below l (λ n. ltb (coefficient a n) q) ≡ true
+abbrev invariant-loop-l : tie.invariant-loop-l
+invariant-loop-l q k a l₀ l = all_below l (λ n. ltb (coefficient a n) q) ≡ true
 
-pub coefficients-below-spec : {M : Type 1} → statement M
+pub coefficients_below_spec : {M : Type 1} → statement M
 unfolding coefficients_below
-coefficients-below-spec =
+coefficients_below_spec =
     tie.close
     (tie.spec
-    invariant-loop
+    invariant-loop-l
     (λ q k a l₀ l. k - l)
     (λ c. all_below-zero _)
     (λ c. search rules)
     (λ c. search rules)
     (λ c. let turn = c.before.before.before in
-    all_fails _ _ _ turn.loop-test.true (le-ltb _ _ c.if1.true))
+    all_fails _ _ _ turn.loop-l-test.true (le-ltb _ _ c.if-q-x.true))
     (λ c. search rules)
     (λ c. search rules)
     (λ c. let turn = c.before.before.before in
-    all_below_more _ _ turn.before.loop.invariant (lt-ltb _ _ c.if1.false))
-    (λ c. all_passed _ _ _ c.loop-test.false c.before.loop.invariant))
+    all_below_more _ _ turn.before.loop-l.invariant (lt-ltb _ _ c.if-q-x.false))
+    (λ c. all_passed _ _ _ c.loop-l-test.false c.before.loop-l.invariant))

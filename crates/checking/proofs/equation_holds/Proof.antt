@@ -5,12 +5,12 @@ use Rattle.checking.specs.Equations.{equation}
 use Rattle.checking.proofs.equation_holds.Statement.{statement}
 use Rattle.checking.proofs.equation_holds.Tie as tie
 
-pub equation-holds-spec : {M : Type 1} → statement M
+pub equation_holds_spec : {M : Type 1} → statement M
 unfolding equation
-equation-holds-spec =
+equation_holds_spec =
     tie.close
     (tie.spec
     (λ c κs. search rules)
-    (λ c. rw (lt-ltb _ _ c.before.if1.true) c.l-equation.ensures)
+    (λ c. rw (lt-ltb _ _ c.before.if-e-k.true) c.l_equation.ensures)
     (λ c κs. search rules)
-    (λ c. rw (le-ltb _ _ c.before.if1.false) c.j-equation.ensures))
+    (λ c. rw (le-ltb _ _ c.before.if-e-k.false) c.j_equation.ensures))

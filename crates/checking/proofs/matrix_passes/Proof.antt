@@ -12,24 +12,24 @@ use Rattle.folds.specs.Loops.{all_fails, all_passed}
 use Rattle.checking.proofs.matrix_passes.Statement.{statement}
 use Rattle.checking.proofs.matrix_passes.Tie as tie
 
-abbrev invariant-loop : tie.invariant-loop
-invariant-loop group k c j₀ j = all_below j (λ n. all_below k (λ l. in_group group (entry c n l))) ≡ true
+abbrev invariant-loop-j : tie.invariant-loop-j
+invariant-loop-j group k c j₀ j = all_below j (λ n. all_below k (λ l. in_group group (entry c n l))) ≡ true
 
-pub matrix-passes-spec : {M : Type 1} → statement M
+pub matrix_passes_spec : {M : Type 1} → statement M
 unfolding matrix_passes
-matrix-passes-spec =
+matrix_passes_spec =
     tie.close
     (tie.spec
-    invariant-loop
+    invariant-loop-j
     (λ group k c j₀ j. k - j)
     (λ c. all_below-zero _)
     (λ c. search rules)
     (λ c. search rules)
     (λ c κs. c.before.before.before.requires)
     (λ c. let turn = c.before.before.before in
-    all_fails _ _ _ turn.loop-test.true (failed c.before.row-passes.ensures c.if1.true))
+    all_fails _ _ _ turn.loop-j-test.true (failed c.before.row_passes.ensures c.if-not-row_passes.true))
     (λ c. search rules)
     (λ c. search rules)
     (λ c. let turn = c.before.before.before in
-    all_below_more _ _ turn.before.loop.invariant (passed c.before.row-passes.ensures c.if1.false))
-    (λ c. all_passed _ _ _ c.loop-test.false c.before.loop.invariant))
+    all_below_more _ _ turn.before.loop-j.invariant (passed c.before.row_passes.ensures c.if-not-row_passes.false))
+    (λ c. all_passed _ _ _ c.loop-j-test.false c.before.loop-j.invariant))

@@ -36,28 +36,28 @@ row_more {G} {k} {C} h x y j power hj m e =
     (λ l hl. mul_cong G.q power (x ^ j) _ _ (e ∙ ap (λ t. t % G.q) (one-mul (x ^ j))) refl))
     ∙ prod_mod_more_mod G.p (rowPart k C x y) j
 
-abbrev invariant-loop : tie.invariant-loop
-invariant-loop group k x y c p q made₀ power₀ j₀ made power j =
+abbrev invariant-loop-j : tie.invariant-loop-j
+invariant-loop-j group k x y c p q made₀ power₀ j₀ made power j =
     (j ≤ k) × (made.0 ≡ prod_below j (rowPart k c x y) % p) × (power.0 % q ≡ (1 * x ^ j) % q)
 
-loop-again : tie.Need-loop-preserved invariant-loop (λ group k x y c p q made₀ power₀ j₀ made power j. k - j)
+loop-again : tie.Need-loop-j-preserved invariant-loop-j (λ group k x y c p q made₀ power₀ j₀ made power j. k - j)
 loop-again c =
     let turn = c.before.before.before.before in
     let start = turn.before.before in
-    let inv = turn.before.loop.invariant in
+    let inv = turn.before.loop-j.invariant in
     let a = start.args in
-    rw (c.before.times.ensures, c.before.before.opened-part.ensures, c.product.ensures) (
+    rw (c.before.times-made.ensures, c.before.before.opened_part-factor.ensures, c.product-power.ensures) (
       omega arith,
-      row_more start.requires a.x a.y _ _ turn.loop-test.true inv.1 inv.2,
+      row_more start.requires a.x a.y _ _ turn.loop-j-test.true inv.1 inv.2,
       weight_more _ _ _ _ _ inv.2,
     )
 
-pub opened-at-spec : {M : Type 1} → statement M
+pub opened_at_spec : {M : Type 1} → statement M
 unfolding opened_at
-opened-at-spec =
+opened_at_spec =
     tie.close
     (found4 (tie.spec
-    invariant-loop
+    invariant-loop-j
     (λ group k x y c p q made₀ power₀ j₀ made power j. k - j)
     (λ c. search rules)
     (λ c. (
@@ -67,7 +67,7 @@ opened-at-spec =
     ))
     (λ c. search rules)
     (λ c. search rules)
-    (λ c κs. row_line c.before.before.before.requires _ c.before.loop-test.true)) (search rules)
+    (λ c κs. row_line c.before.before.before.requires _ c.before.loop-j-test.true)) (search rules)
     loop-again
-    (λ c. let all : c.before.loop.j ≡ c.before.before.args.k = omega arith in
-    ap element (rw all at c.before.loop.invariant.1)))
+    (λ c. let all : c.before.loop-j.j ≡ c.before.before.args.k = omega arith in
+    ap element (rw all at c.before.loop-j.invariant.1)))

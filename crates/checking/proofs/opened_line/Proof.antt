@@ -11,8 +11,8 @@ use Rattle.checking.proofs.opened_line.Tie as tie
 returns : tie.Need-returns
 returns c =
     let a = c.before.args in
-    c.opened-part.ensures
+    c.opened_part.ensures
     ∙ ap (λ t. element (t % a.group.p)) (prod_below_same _ _ a.k (λ l h. ap (λ t. element_at a.c l ^ t) (one-mul (a.x ^ l))))
 
-pub opened-line-spec : {M : Type 1} → statement M
-opened-line-spec = tie.close (tie.spec (λ c κs. c.requires) returns)
+pub opened_line_spec : {M : Type 1} → statement M
+opened_line_spec = tie.close (tie.spec (λ c κs. c.requires) returns)

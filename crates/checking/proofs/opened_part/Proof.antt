@@ -22,27 +22,27 @@ factor-more : (q p : ℕ) (c a : ℕ → ℕ) (n : ℕ) {made : ℕ} (power : �
 factor-more q p c a n power one m h =
     ap₂ (λ s t. (s * t) % p) m (pow-same q p (c n) one power (a n) h) ∙ prod_mod_more_mod p (λ i. c i ^ a i) n
 
-abbrev invariant-loop : tie.invariant-loop
-invariant-loop k x c p q made₀ power₀ l₀ made power l =
+abbrev invariant-loop-l : tie.invariant-loop-l
+invariant-loop-l k x c p q made₀ power₀ l₀ made power l =
     (l ≤ k) × (made.0 ≡ along_part l c power₀.0 x % p) × (power.0 % q ≡ (power₀.0 * x ^ l) % q)
 
-loop-again : tie.Need-loop-preserved invariant-loop (λ k x c p q made₀ power₀ l₀ made power l. k - l)
+loop-again : tie.Need-loop-l-preserved invariant-loop-l (λ k x c p q made₀ power₀ l₀ made power l. k - l)
 loop-again c =
     let turn = c.before.before.before.before in
-    let inv = turn.before.loop.invariant in
+    let inv = turn.before.loop-l.invariant in
     let start = turn.before.before in
     let a = start.args in
-    rw (c.before.times.ensures, c.before.before.power.ensures, c.product.ensures) (
+    rw (c.before.times-made.ensures, c.before.before.power-factor.ensures, c.product-power.ensures) (
       omega arith,
-      factor-more _ _ (element_at a.t3) (λ n. a.w.0 * a.x ^ n) _ _ (start.requires.members _ turn.loop-test.true) inv.1 inv.2,
+      factor-more _ _ (element_at a.t3) (λ n. a.w.0 * a.x ^ n) _ _ (start.requires.members _ turn.loop-l-test.true) inv.1 inv.2,
       weight_more _ _ _ _ _ inv.2,
     )
 
-pub opened-part-spec : {M : Type 1} → statement M
-opened-part-spec =
+pub opened_part_spec : {M : Type 1} → statement M
+opened_part_spec =
     tie.close
     (found7 (tie.spec
-    invariant-loop
+    invariant-loop-l
     (λ k x c p q made₀ power₀ l₀ made power l. k - l)
     (λ c. search rules)
     (λ c. (
@@ -51,5 +51,5 @@ opened-part-spec =
       ap (λ t. t % c.args.group.q) (sym (ap (λ t. c.args.w.0 * t) (pow-zero c.args.x) ∙ mul-one _)),
     ))) (search rules)
     loop-again
-    (λ c. let all : c.before.loop.l ≡ c.before.before.args.k = omega arith in
-    ap element (rw all at c.before.loop.invariant.1)))
+    (λ c. let all : c.before.loop-l.l ≡ c.before.before.args.k = omega arith in
+    ap element (rw all at c.before.loop-l.invariant.1)))

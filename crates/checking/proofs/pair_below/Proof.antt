@@ -4,10 +4,10 @@ use Rattle.rules.specs.Dealing.{pair_below}
 use Rattle.checking.proofs.pair_below.Statement.{statement}
 use Rattle.checking.proofs.pair_below.Tie as tie
 
-pub pair-below-spec : {M : Type 1} → statement M
+pub pair_below_spec : {M : Type 1} → statement M
 unfolding pair_below
-pair-below-spec =
+pair_below_spec =
     tie.close
     (tie.spec
-    (λ c. rw (le-ltb _ _ c.if1.true))
-    (λ c. rw (lt-ltb _ _ c.before.before.if1.false)))
+    (λ c. rw (le-ltb _ _ c.if-q-first.true))
+    (λ c. rw (lt-ltb _ _ c.before.before.if-q-first.false)))

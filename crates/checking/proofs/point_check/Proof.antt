@@ -5,12 +5,12 @@ use Rattle.rules.specs.Dealing.{point_check}
 use Rattle.checking.proofs.point_check.Statement.{statement}
 use Rattle.checking.proofs.point_check.Tie as tie
 
-pub point-check-spec : {M : Type 1} → statement M
+pub point_check_spec : {M : Type 1} → statement M
 unfolding point_check
-point-check-spec =
+point_check_spec =
     tie.close
     (tie.spec
     (λ c κs. search rules)
-    (λ c. rw (failed c.before.alpha-equation.ensures c.if1.true))
+    (λ c. rw (failed c.before.alpha_equation.ensures c.if-not-alpha_equation.true))
     (λ c κs. search rules)
-    (λ c. let e = c.before in rw (passed e.before.alpha-equation.ensures e.if1.false) c.beta-equation.ensures))
+    (λ c. let e = c.before in rw (passed e.before.alpha_equation.ensures e.if-not-alpha_equation.false) c.beta_equation.ensures))

@@ -10,23 +10,23 @@ use Rattle.checking.specs.Equations.{equation, all_equations}
 use Rattle.checking.proofs.polynomial_check.Statement.{statement}
 use Rattle.checking.proofs.polynomial_check.Tie as tie
 
-abbrev invariant-loop : tie.invariant-loop
-invariant-loop group k c i all e₀ e = all_below e (equation group k c i all) ≡ true
+abbrev invariant-loop-e : tie.invariant-loop-e
+invariant-loop-e group k c i all e₀ e = all_below e (equation group k c i all) ≡ true
 
-pub polynomial-check-spec : {M : Type 1} → statement M
-polynomial-check-spec =
+pub polynomial_check_spec : {M : Type 1} → statement M
+polynomial_check_spec =
     tie.close
     (tie.spec
-    invariant-loop
+    invariant-loop-e
     (λ group k c i all e₀ e. k + k - e)
     (λ c. all_below-zero _)
     (λ c. search rules)
     (λ c κs. search rules)
     (λ c. let turn = c.before.before in
-    all_fails _ _ _ turn.loop-test.true (failed c.before.equation-holds.ensures c.if1.true)
+    all_fails _ _ _ turn.loop-e-test.true (failed c.before.equation_holds.ensures c.if-not-equation_holds.true)
     ∙ all_equations _ _ _ _ _)
     (λ c. search rules)
     (λ c. search rules)
     (λ c. let turn = c.before.before in
-    all_below_more _ _ turn.before.loop.invariant (passed c.before.equation-holds.ensures c.if1.false))
-    (λ c. all_passed _ _ _ c.loop-test.false c.before.loop.invariant ∙ all_equations _ _ _ _ _))
+    all_below_more _ _ turn.before.loop-e.invariant (passed c.before.equation_holds.ensures c.if-not-equation_holds.false))
+    (λ c. all_passed _ _ _ c.loop-e-test.false c.before.loop-e.invariant ∙ all_equations _ _ _ _ _))

@@ -8,36 +8,36 @@ use Rattle.checking.proofs.polynomials_below.Statement.{statement}
 use Rattle.checking.proofs.polynomials_below.Tie as tie
 
 -- behind the test of a, of a' and of b
-abbrev of-a : tie.Else2 → tie.Else1
+abbrev of-a : tie.Else-not-coefficients_below-2 → tie.Else-not-coefficients_below
 of-a c = c.before.before.before
 
-abbrev of-a2 : tie.Else3 → tie.Else2
+abbrev of-a2 : tie.Else-not-coefficients_below-3 → tie.Else-not-coefficients_below-2
 of-a2 c = c.before.before.before
 
-abbrev start : tie.Else1 → tie.Start
+abbrev start : tie.Else-not-coefficients_below → tie.Start
 start c = c.before.before.before
 
-first : (c : tie.Else1) → let a = (start c).args in coefficients_below a.q a.k a.all.a ≡ true
-first c = passed c.before.coefficients-below.ensures c.if1.false
+first : (c : tie.Else-not-coefficients_below) → let a = (start c).args in coefficients_below a.q a.k a.all.a ≡ true
+first c = passed c.before.coefficients_below.ensures c.if-not-coefficients_below.false
 
-second : (c : tie.Else2) → let a = (start (of-a c)).args in coefficients_below a.q a.k a.all.a2 ≡ true
-second c = passed c.before.coefficients-below2.ensures c.if2.false
+second : (c : tie.Else-not-coefficients_below-2) → let a = (start (of-a c)).args in coefficients_below a.q a.k a.all.a2 ≡ true
+second c = passed c.before.coefficients_below-2.ensures c.if-not-coefficients_below-2.false
 
-third : (c : tie.Else3) → let a = (start (of-a (of-a2 c))).args in coefficients_below a.q a.k a.all.b ≡ true
-third c = passed c.before.coefficients-below3.ensures c.if3.false
+third : (c : tie.Else-not-coefficients_below-3) → let a = (start (of-a (of-a2 c))).args in coefficients_below a.q a.k a.all.b ≡ true
+third c = passed c.before.coefficients_below-3.ensures c.if-not-coefficients_below-3.false
 
-pub polynomials-below-spec : {M : Type 1} → statement M
+pub polynomials_below_spec : {M : Type 1} → statement M
 unfolding polynomials_below
-polynomials-below-spec =
+polynomials_below_spec =
     tie.close
     (tie.spec
     (λ c κs. search rules)
-    (λ c. rw (failed c.before.coefficients-below.ensures c.if1.true))
+    (λ c. rw (failed c.before.coefficients_below.ensures c.if-not-coefficients_below.true))
     (λ c κs. search rules)
-    (λ c. rw (first c.before.before.before, failed c.before.coefficients-below2.ensures c.if2.true))
+    (λ c. rw (first c.before.before.before, failed c.before.coefficients_below-2.ensures c.if-not-coefficients_below-2.true))
     (λ c κs. search rules)
     (λ c. let d = c.before.before.before in
-    rw (first (of-a d), second d, failed c.before.coefficients-below3.ensures c.if3.true))
+    rw (first (of-a d), second d, failed c.before.coefficients_below-3.ensures c.if-not-coefficients_below-3.true))
     (λ c κs. search rules)
     (λ c. let d = c.before.before in
-    rw (first (of-a (of-a2 d)), second (of-a2 d), third d) c.coefficients-below4.ensures))
+    rw (first (of-a (of-a2 d)), second (of-a2 d), third d) c.coefficients_below-4.ensures))

@@ -13,17 +13,17 @@ use Rattle.checking.specs.Equations.{element_at}
 use Rattle.checking.proofs.row_passes.Statement.{statement}
 use Rattle.checking.proofs.row_passes.Tie as tie
 
-abbrev invariant-loop : tie.invariant-loop
-invariant-loop group k c l₀ l = all_below l (λ n. in_group group (element_at c n)) ≡ true
+abbrev invariant-loop-l : tie.invariant-loop-l
+invariant-loop-l group k c l₀ l = all_below l (λ n. in_group group (element_at c n)) ≡ true
 
-pub row-passes-spec : {M : Type 1} → statement M
-row-passes-spec =
+pub row_passes_spec : {M : Type 1} → statement M
+row_passes_spec =
     tie.close
-    (found3 (tie.spec invariant-loop (λ group k c l₀ l. k - l) (λ c. all_below-zero _)) (search rules)
+    (found3 (tie.spec invariant-loop-l (λ group k c l₀ l. k - l) (λ c. all_below-zero _)) (search rules)
     (λ c. let turn = c.before.before.before in
-    all_fails _ _ _ turn.loop-test.true (failed c.before.is-element.ensures c.if1.true))
+    all_fails _ _ _ turn.loop-l-test.true (failed c.before.is_element.ensures c.if-not-is_element.true))
     (λ c. search rules)
     (λ c. search rules)
     (λ c. let turn = c.before.before.before in
-    all_below_more _ _ turn.before.loop.invariant (passed c.before.is-element.ensures c.if1.false))
-    (λ c. all_passed _ _ _ c.loop-test.false c.before.loop.invariant))
+    all_below_more _ _ turn.before.loop-l.invariant (passed c.before.is_element.ensures c.if-not-is_element.false))
+    (λ c. all_passed _ _ _ c.loop-l-test.false c.before.loop-l.invariant))

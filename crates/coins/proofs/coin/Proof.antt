@@ -16,8 +16,8 @@ behind : {A : Type 0} (x : A) (xs : List A) (d : A) (i : ℕ) → i ≢ 0 → ge
 behind x xs d zero h = absurd (h refl)
 behind x xs d (suc i) h = let before : suc i - 1 ≡ i = omega arith in rw before
 
-pub coin-spec : {M : Type 1} → statement M
-coin-spec =
+pub coin_spec : {M : Type 1} → statement M
+coin_spec =
     tie.close
-    (found3 (tie.spec (λ c. rw c.if1.true)) (search rules)
-    (λ c. ap exponent (sym (behind _ c.before.before.args.coins.now 0 _ c.before.if1.false))))
+    (found3 (tie.spec (λ c. rw c.if-at-eq0.true)) (search rules)
+    (λ c. ap exponent (sym (behind _ c.before.before.args.coins.now 0 _ c.before.if-at-eq0.false))))

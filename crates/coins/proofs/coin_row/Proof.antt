@@ -10,14 +10,14 @@ use Rattle.folds.specs.Loops.{Filling, filling_none, filling_more, filling_all}
 use Rattle.coins.proofs.coin_row.Statement.{statement}
 use Rattle.coins.proofs.coin_row.Tie as tie
 
-abbrev invariant-loop : tie.invariant-loop
-invariant-loop k secret coins from made₀ l₀ made l = Filling (λ n. exponent (get_or (secret ∷ coins) (from + n) 0)) made₀ k l made
+abbrev invariant-loop-l : tie.invariant-loop-l
+invariant-loop-l k secret coins from made₀ l₀ made l = Filling (λ n. exponent (get_or (secret ∷ coins) (from + n) 0)) made₀ k l made
 
-pub coin-row-spec : {M : Type 1} → statement M
+pub coin_row_spec : {M : Type 1} → statement M
 unfolding row
-coin-row-spec =
+coin_row_spec =
     tie.close
-    (found6 (tie.spec invariant-loop (λ k secret coins from made₀ l₀ made l. k - l) (λ c. filling_none)) (search rules)
+    (found6 (tie.spec invariant-loop-l (λ k secret coins from made₀ l₀ made l. k - l) (λ c. filling_none)) (search rules)
     (λ c. let turn = c.before in
-    filling_more turn.before.loop.invariant turn.loop-test.true c.coin.ensures)
-    (λ c. filling_all c.before.loop.invariant c.loop-test.false))
+    filling_more turn.before.loop-l.invariant turn.loop-l-test.true c.coin-x.ensures)
+    (λ c. filling_all c.before.loop-l.invariant c.loop-l-test.false))

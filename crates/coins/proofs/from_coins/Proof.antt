@@ -23,28 +23,28 @@ row_from : (k secret : ℕ) (coins : List ℕ) (from j : ℕ)
 row_from k secret coins from j =
     row_same k (exponent 0) _ _ (λ l h. ap (λ at. exponent (get_or (secret ∷ coins) at 0)) (add_assoc from (j * k) l))
 
-abbrev invariant-loop : tie.invariant-loop
-invariant-loop secret coins from made₀ k j₀ made j =
+abbrev invariant-loop-j : tie.invariant-loop-j
+invariant-loop-j secret coins from made₀ k j₀ made j =
     Filling (λ n. row k (exponent 0) (λ l. exponent (get_or (secret ∷ coins) (from + (n * k + l)) 0))) made₀ k j made
 
-abbrev decreases-loop : tie.decreases-loop
-decreases-loop secret coins from made₀ k j₀ made j = k - j
+abbrev decreases-loop-j : tie.decreases-loop-j
+decreases-loop-j secret coins from made₀ k j₀ made j = k - j
 
-abbrev start : tie.In-loop invariant-loop decreases-loop → tie.Start invariant-loop decreases-loop
+abbrev start : tie.In-loop-j invariant-loop-j decreases-loop-j → tie.Start invariant-loop-j decreases-loop-j
 start c = c.before.before.before.before
 
 -- a turn's row is within the coins
-within : (c : tie.In-loop invariant-loop decreases-loop)
-    → let a = (start c).args in a.from + (c.before.loop.j * a.u.k + a.u.k) ≤ length a.coins.now + 1
-within c = omega (arith, row_within _ _ c.loop-test.true, (start c).requires.1)
+within : (c : tie.In-loop-j invariant-loop-j decreases-loop-j)
+    → let a = (start c).args in a.from + (c.before.loop-j.j * a.u.k + a.u.k) ≤ length a.coins.now + 1
+within c = omega (arith, row_within _ _ c.loop-j-test.true, (start c).requires.1)
 
-pub from-coins-spec : {M : Type 1} → statement M
+pub from_coins_spec : {M : Type 1} → statement M
 unfolding from_coins matrix
-from-coins-spec =
+from_coins_spec =
     tie.close
     (found4 (tie.spec
-    invariant-loop
-    decreases-loop
+    invariant-loop-j
+    decreases-loop-j
     (λ c. search rules)
     (λ c. filling_none)
     (λ c. omega (arith, within c))
@@ -52,6 +52,6 @@ from-coins-spec =
     (λ c κs. omega (arith, within c))) (search rules)
     (λ c. let turn = c.before in
     let a = (start turn).args in
-    filling_more turn.before.loop.invariant turn.loop-test.true
-    (c.coin-row.ensures ∙ row_from a.u.k a.secret a.coins.now a.from turn.before.loop.j))
-    (λ c. filling_all c.before.loop.invariant c.loop-test.false))
+    filling_more turn.before.loop-j.invariant turn.loop-j-test.true
+    (c.coin_row-x.ensures ∙ row_from a.u.k a.secret a.coins.now a.from turn.before.loop-j.j))
+    (λ c. filling_all c.before.loop-j.invariant c.loop-j-test.false))

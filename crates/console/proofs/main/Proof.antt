@@ -6,16 +6,16 @@ use Rattle.console_lines.specs.Lines.{Within}
 use Rattle.console.proofs.main.Statement.{statement}
 use Rattle.console.proofs.main.Tie as tie
 
-abbrev invariant-loop : tie.invariant-loop
-invariant-loop space₀ page₀ bench₀ held₀ turns₀ space page bench held turns =
+abbrev invariant-loop-turns : tie.invariant-loop-turns
+invariant-loop-turns space₀ page₀ bench₀ held₀ turns₀ space page bench held turns =
     (length space ≡ 8192) × (length page ≡ 16384) × Within space held.from held.to
 
-abbrev decreases-loop : tie.decreases-loop
-decreases-loop space₀ page₀ bench₀ held₀ turns₀ space page bench held turns = turns
+abbrev decreases-loop-turns : tie.decreases-loop-turns
+decreases-loop-turns space₀ page₀ bench₀ held₀ turns₀ space page bench held turns = turns
 
 pub main_spec : {M : Type 1} → statement M
 main_spec =
     tie.close
     (tie.spec
-    invariant-loop
-    decreases-loop (λ c κs. search rules) (λ c. search rules) (λ c. search rules) (λ c. search rules) (λ c κs. search rules) (λ c. search rules) (λ c. search rules) (λ c κs. search rules) (λ c. search rules) (λ c. search rules) (λ c. search rules) (λ c κs. search rules) (λ c. search rules) (λ c. search rules) (λ c. search rules) (λ c. search rules) (λ c. search rules))
+    invariant-loop-turns
+    decreases-loop-turns (λ c κs. search rules) (λ c. search rules) (λ c. search rules) (λ c. search rules) (λ c κs. search rules) (λ c. search rules) (λ c. search rules) (λ c κs. search rules) (λ c. search rules) (λ c. search rules) (λ c. search rules) (λ c κs. search rules) (λ c. search rules) (λ c. search rules) (λ c. search rules) (λ c. search rules) (λ c. search rules))

@@ -24,30 +24,30 @@ column-value q k f l i small =
     ap (λ t. t % q)
     (sum_below_same _ _ k (λ j h. ap (λ t. t * i ^ j) (coefficient_at k (λ n. coefficient₂ f n l) small j h)))
 
-abbrev invariant-loop : tie.invariant-loop
-invariant-loop q k i across f made₀ n₀ made n = Filling (along_at across q k f i) made₀ k n made
+abbrev invariant-loop-n : tie.invariant-loop-n
+invariant-loop-n q k i across f made₀ n₀ made n = Filling (along_at across q k f i) made₀ k n made
 
-abbrev decreases-loop : tie.decreases-loop
-decreases-loop q k i across f made₀ n₀ made n = k - n
+abbrev decreases-loop-n : tie.decreases-loop-n
+decreases-loop-n q k i across f made₀ n₀ made n = k - n
 
-loop-again : tie.Need-loop-preserved invariant-loop decreases-loop
+loop-again : tie.Need-loop-n-preserved invariant-loop-n decreases-loop-n
 unfolding value_at
 loop-again c =
     let turn = c.before.before.before in
     let start = turn.before.before in
     let a = start.args in
-    filling_more turn.before.loop.invariant turn.loop-test.true
-    (c.value-at.ensures
+    filling_more turn.before.loop-n.invariant turn.loop-n-test.true
+    (c.value_at-x.ensures
     ∙ ⊎_elim
     (λ w. rw (w.2, w.1.ensures, w.0.taken)
-    (ap exponent (column-value a.q a.k a.t3 turn.before.loop.n a.i start.requires.1)))
+    (ap exponent (column-value a.q a.k a.t3 turn.before.loop-n.n a.i start.requires.1)))
     (λ w. rw (w.1, w.0.left))
-    c.before.if1.branch)
+    c.before.if-across.branch)
 
-pub along-spec : {M : Type 1} → statement M
+pub along_spec : {M : Type 1} → statement M
 unfolding row
-along-spec =
+along_spec =
     tie.close
-    (found8 (tie.spec invariant-loop decreases-loop (λ c. filling_none)) (search rules)
+    (found8 (tie.spec invariant-loop-n decreases-loop-n (λ c. filling_none)) (search rules)
     loop-again
-    (λ c. filling_all c.before.loop.invariant c.loop-test.false))
+    (λ c. filling_all c.before.loop-n.invariant c.loop-n-test.false))

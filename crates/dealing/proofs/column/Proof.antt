@@ -9,14 +9,14 @@ use Rattle.folds.specs.Loops.{Filling, filling_none, filling_more, filling_all}
 use Rattle.dealing.proofs.column.Statement.{statement}
 use Rattle.dealing.proofs.column.Tie as tie
 
-abbrev invariant-loop : tie.invariant-loop
-invariant-loop k l f made₀ j₀ made j = Filling (λ n. exponent (coefficient₂ f n l)) made₀ k j made
+abbrev invariant-loop-j : tie.invariant-loop-j
+invariant-loop-j k l f made₀ j₀ made j = Filling (λ n. exponent (coefficient₂ f n l)) made₀ k j made
 
-pub column-spec : {M : Type 1} → statement M
+pub column_spec : {M : Type 1} → statement M
 unfolding row
-column-spec =
+column_spec =
     tie.close
-    (found8 (tie.spec invariant-loop (λ k l f made₀ j₀ made j. k - j) (λ c. filling_none)) (search rules)
+    (found8 (tie.spec invariant-loop-j (λ k l f made₀ j₀ made j. k - j) (λ c. filling_none)) (search rules)
     (λ c. let turn = c.before.before in
-    filling_more turn.before.loop.invariant turn.loop-test.true refl)
-    (λ c. filling_all c.before.loop.invariant c.loop-test.false))
+    filling_more turn.before.loop-j.invariant turn.loop-j-test.true refl)
+    (λ c. filling_all c.before.loop-j.invariant c.loop-j-test.false))

@@ -9,14 +9,14 @@ use Rattle.folds.specs.Loops.{Filling, filling_none, filling_more, filling_all}
 use Rattle.dealing.proofs.commit_row.Statement.{statement}
 use Rattle.dealing.proofs.commit_row.Tie as tie
 
-abbrev invariant-loop : tie.invariant-loop
-invariant-loop group k f f2 made₀ l₀ made l = Filling (λ n. element (committed group (coefficient f n) (coefficient f2 n))) made₀ k l made
+abbrev invariant-loop-l : tie.invariant-loop-l
+invariant-loop-l group k f f2 made₀ l₀ made l = Filling (λ n. element (committed group (coefficient f n) (coefficient f2 n))) made₀ k l made
 
-pub commit-row-spec : {M : Type 1} → statement M
+pub commit_row_spec : {M : Type 1} → statement M
 unfolding row
-commit-row-spec =
+commit_row_spec =
     tie.close
-    (found9 (tie.spec invariant-loop (λ group k f f2 made₀ l₀ made l. k - l) (λ c. filling_none)) (search rules)
+    (found9 (tie.spec invariant-loop-l (λ group k f f2 made₀ l₀ made l. k - l) (λ c. filling_none)) (search rules)
     (λ c. let turn = c.before.before.before in
-    filling_more turn.before.loop.invariant turn.loop-test.true c.commit.ensures)
-    (λ c. filling_all c.before.loop.invariant c.loop-test.false))
+    filling_more turn.before.loop-l.invariant turn.loop-l-test.true c.commit-e.ensures)
+    (λ c. filling_all c.before.loop-l.invariant c.loop-l-test.false))

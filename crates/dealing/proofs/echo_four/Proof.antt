@@ -5,9 +5,9 @@ use Rattle.rules.specs.Steps.{echo_four}
 use Rattle.dealing.proofs.echo_four.Statement.{statement}
 use Rattle.dealing.proofs.echo_four.Tie as tie
 
-pub echo-four-spec : {M : Type 1} → statement M
+pub echo_four_spec : {M : Type 1} → statement M
 unfolding echo_four
-echo-four-spec =
+echo_four_spec =
     tie.close
     (found4 tie.spec (search rules)
     (λ c. cc))

@@ -8,14 +8,14 @@ use Rattle.folds.specs.Loops.{Filling, filling_none, filling_more, filling_all}
 use Rattle.dealing.proofs.echo_fours.Statement.{statement}
 use Rattle.dealing.proofs.echo_fours.Tie as tie
 
-abbrev invariant-loop : tie.invariant-loop
-invariant-loop q k n all made₀ j₀ made j = Filling (λ m. echo_four q k all (m + 1)) made₀ n j made
+abbrev invariant-loop-j : tie.invariant-loop-j
+invariant-loop-j q k n all made₀ j₀ made j = Filling (λ m. echo_four q k all (m + 1)) made₀ n j made
 
-pub echo-fours-spec : {M : Type 1} → statement M
+pub echo_fours_spec : {M : Type 1} → statement M
 unfolding to_boxes
-echo-fours-spec =
+echo_fours_spec =
     tie.close
-    (found7 (tie.spec invariant-loop (λ q k n all made₀ j₀ made j. n - j) (λ c. filling_none)) (search rules)
+    (found7 (tie.spec invariant-loop-j (λ q k n all made₀ j₀ made j. n - j) (λ c. filling_none)) (search rules)
     (λ c. let turn = c.before in
-    filling_more turn.before.loop.invariant turn.loop-test.true c.echo-four.ensures)
-    (λ c. filling_all c.before.loop.invariant c.loop-test.false))
+    filling_more turn.before.loop-j.invariant turn.loop-j-test.true c.echo_four-x.ensures)
+    (λ c. filling_all c.before.loop-j.invariant c.loop-j-test.false))

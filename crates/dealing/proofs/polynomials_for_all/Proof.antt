@@ -10,18 +10,18 @@ use Rattle.folds.specs.Loops.{Filling, filling_none, filling_more, filling_all}
 use Rattle.dealing.proofs.polynomials_for_all.Statement.{statement}
 use Rattle.dealing.proofs.polynomials_for_all.Tie as tie
 
-abbrev invariant-loop : tie.invariant-loop
-invariant-loop q k n f f2 made₀ j₀ made j = Filling (λ m. polynomials_of q k f f2 (m + 1)) (replicate 10 zero_polynomials) n j made
+abbrev invariant-loop-j : tie.invariant-loop-j
+invariant-loop-j q k n f f2 made₀ j₀ made j = Filling (λ m. polynomials_of q k f f2 (m + 1)) (replicate 10 zero_polynomials) n j made
 
-pub polynomials-for-all-spec : {M : Type 1} → statement M
+pub polynomials_for_all_spec : {M : Type 1} → statement M
 unfolding to_boxes
-polynomials-for-all-spec =
+polynomials_for_all_spec =
     tie.close
     (found7 (tie.spec
-    invariant-loop
+    invariant-loop-j
     (λ q k n f f2 made₀ j₀ made j. n - j)
     (λ c κs. search rules)
-    (λ c. rw c.zero-polynomials.ensures filling_none)) (search rules)
+    (λ c. rw c.zero_polynomials-zero.ensures filling_none)) (search rules)
     (λ c. let turn = c.before in
-    filling_more turn.before.loop.invariant turn.loop-test.true c.polynomials-for.ensures)
-    (λ c. filling_all c.before.loop.invariant c.loop-test.false))
+    filling_more turn.before.loop-j.invariant turn.loop-j-test.true c.polynomials_for-x.ensures)
+    (λ c. filling_all c.before.loop-j.invariant c.loop-j-test.false))

@@ -42,18 +42,18 @@ module _ (t : Twice) (h : Given t) (i from : ℕ) where
   -- ---- forged
 
   module _ (bytes : List ℕ) (not-keeping : keeps t.class from ≡ false) where
-    in-set : is_box (numbers t) from ≡ true → in_set t from ≡ true
+    in_set_lem : is_box (numbers t) from ≡ true → in_set t from ≡ true
     unfolding keeps
-    in-set b = not-false _ (and_rest (is_box (numbers t) from) _ not-keeping b)
+    in_set_lem b = not-false _ (and_rest (is_box (numbers t) from) _ not-keeping b)
 
-    nothing-moves : is_box (numbers t) from ≡ true → (tag_in bytes ≡ 1 → from ≡ (numbers t).d)
+    nothing_moves : is_box (numbers t) from ≡ true → (tag_in bytes ≡ 1 → from ≡ (numbers t).d)
         → exponents_keep (numbers t) (message_in (numbers t) bytes) ≡ true
         → message_in (numbers t) bytes ≡ moved_message t from i (message_in (numbers t) bytes)
     unfolding message_in
-    nothing-moves b d =
+    nothing_moves b d =
         let u = numbers t in
         pick-either Still (eqb (tag_in bytes) 1) (send (matrix_in u bytes) (polynomials_in u bytes)) _
-        (λ e below. absurd (true≢false (sym (in-set b) ∙ ap (in_set t) (d (eqb-true _ 1 e)) ∙ h.dealer)))
+        (λ e below. absurd (true≢false (sym (in_set_lem b) ∙ ap (in_set t) (d (eqb-true _ 1 e)) ∙ h.dealer)))
         (λ e1. pick-either Still (eqb (tag_in bytes) 2) (echo (matrix_in u bytes) (four_in u bytes)) _
         (λ e below. ap (echo (matrix_in u bytes)) (sym (four_still t h _ (four_in u bytes) none below)))
         (λ e2. pick-either Still (eqb (tag_in bytes) 3) (ready (matrix_in u bytes) (four_in u bytes)) (recovery (pair_in bytes))
@@ -64,7 +64,7 @@ module _ (t : Twice) (h : Given t) (i from : ℕ) where
         Still m = exponents_keep (numbers t) m ≡ true → m ≡ moved_message t from i m
 
         none : zed t from * zed t i ≡ 0
-        none = ap (λ v. v * zed t i) (zed-on-set t h from b (in-set b)) ∙ omega arith
+        none = ap (λ v. v * zed t i) (zed-on-set t h from b (in_set_lem b)) ∙ omega arith
 
     pub forged : Arrives t i from bytes bytes
     forged =
@@ -74,8 +74,8 @@ module _ (t : Twice) (h : Given t) (i from : ℕ) where
           session = refl;
           matrix = refl;
           exponents = refl;
-          says = nothing-moves;
-          whose = λ b l. inl (in-set b);
+          says = nothing_moves;
+          whose = λ b l. inl (in_set_lem b);
         }
 
   -- ---- handed on

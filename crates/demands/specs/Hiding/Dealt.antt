@@ -21,7 +21,7 @@ use Rattle.rules.specs.Steps.{deal_step}
 use Rattle.rules.specs.Answers.{first_of, deal_rows, deal, own_deal_rows, Refusal, first_row}
 use Rattle.rules.specs.Laws.Matrices.{row_same}
 use Rattle.rules.specs.Laws.RoundTrip.{PolynomialFits, PolynomialsFit}
-use Rattle.rules.specs.Laws.Ranges.{dealt-rooms}
+use Rattle.rules.specs.Laws.Ranges.{dealt_rooms}
 use Rattle.rules.specs.Laws.Passed.{deal_passed}
 use Rattle.demands.specs.Terms.Histories.{own}
 use Rattle.demands.specs.Terms.Dealing.{dealt_to}
@@ -29,7 +29,7 @@ use Rattle.demands.specs.Sharing.{send_passes}
 use Rattle.demands.specs.Terms.Secrets.{z}
 use Rattle.demands.specs.Lives.Commands.{deal_sends}
 use Rattle.demands.specs.Hiding.Moves.{Twice, numbers, in_set, q, coins', dealt, zed, shifted, shifted', moved_by, moved_polynomials, moved_record}
-use Rattle.demands.specs.Hiding.Hypotheses.{Given, sound_numbers, size, coins_keep', same_matrix_lem, dealt-moves}
+use Rattle.demands.specs.Hiding.Hypotheses.{Given, sound_numbers, size, coins_keep', same_matrix_lem, dealt_moves}
 use Rattle.demands.specs.Hiding.Steps.{MovedStep}
 use Rattle.demands.specs.Own.{own_each, each_same}
 use Rattle.demands.specs.Hiding.Outcomes.{DoneAlike, answered_alike, row_alike, call_alike}
@@ -38,7 +38,7 @@ module _ (t : Twice) (h : Given t) where
   -- ---- the polynomials
 
   dealt_fit : (s : ℕ) (coins : List ℕ) (j : ℕ) → PolynomialsFit (numbers t).k (dealt_to (numbers t) s coins j)
-  dealt_fit s coins j = dealt-rooms (numbers t) h.group_keeps_lem (size t h).high _ _ j
+  dealt_fit s coins j = dealt_rooms (numbers t) h.group_keeps_lem (size t h).high _ _ j
 
   -- a polynomial whose coefficients are moved is a moved polynomial
   row_moved : (shift : ℕ → ℕ → ℕ) (j : ℕ) (a a' : List Exponent) → PolynomialFits (numbers t).k a'
@@ -53,10 +53,10 @@ module _ (t : Twice) (h : Given t) where
       let P' : Polynomials = dealt_to (numbers t) t.s' (coins' t) j in
       let c = dealt_fit t.s' (coins' t) j in
       same P'
-      (row_moved (shifted t) j P.a P'.a c.a (λ l lt. (dealt-moves t h j l lt).0))
-      (row_moved (shifted' t) j P.a2 P'.a2 c.a2 (λ l lt. (dealt-moves t h j l lt).1))
-      (row_moved (shifted t) j P.b P'.b c.b (λ l lt. (dealt-moves t h j l lt).2))
-      (row_moved (shifted' t) j P.b2 P'.b2 c.b2 (λ l lt. (dealt-moves t h j l lt).3))
+      (row_moved (shifted t) j P.a P'.a c.a (λ l lt. (dealt_moves t h j l lt).0))
+      (row_moved (shifted' t) j P.a2 P'.a2 c.a2 (λ l lt. (dealt_moves t h j l lt).1))
+      (row_moved (shifted t) j P.b P'.b c.b (λ l lt. (dealt_moves t h j l lt).2))
+      (row_moved (shifted' t) j P.b2 P'.b2 c.b2 (λ l lt. (dealt_moves t h j l lt).3))
     where
       same : (P : Polynomials) {a a2 b b2 : List Exponent} → P.a ≡ a → P.a2 ≡ a2 → P.b ≡ b → P.b2 ≡ b2
           → P ≡ record { a = a; a2 = a2; b = b; b2 = b2 }
@@ -68,9 +68,9 @@ module _ (t : Twice) (h : Given t) where
     below : (j : ℕ) → polynomials_below (q t) (numbers t).k (dealt_to (numbers t) t.s t.coins j) ≡ true
     below j = (send_passes (numbers t) (sound_numbers t h) t.s t.coins h.coins_keep_lem j).1
 
-    deal-step : i ≡ (numbers t).d → MovedStep t i (deal_step x t.s t.coins) (deal_step (moved_record t i x) t.s' (coins' t))
+    deal_step_lem : i ≡ (numbers t).d → MovedStep t i (deal_step x t.s t.coins) (deal_step (moved_record t i x) t.s' (coins' t))
     unfolding deal_step f_of f'_of from_coins tag_of
-    deal-step e =
+    deal_step_lem e =
         record {
           after = refl;
           sent = refl;
@@ -99,29 +99,29 @@ module _ (t : Twice) (h : Given t) where
         call_alike x _ (length buffer) _ _ hx hy
         (row_alike _ _ _ _ refl refl refl (λ z13. row_alike _ _ _ _ refl refl (ap not same) (λ z14. refl)))
 
-    own-keep : (s : ℕ) (cs : List ℕ) → coins_keep x.setup s cs ≡ coins_keep (numbers t) s cs
+    own_keep : (s : ℕ) (cs : List ℕ) → coins_keep x.setup s cs ≡ coins_keep (numbers t) s cs
     unfolding coins_keep
-    own-keep s cs = rw own-setup
+    own_keep s cs = rw own-setup
 
-    by-dealer : (buffer : List ℕ) → first_of (deal_rows x t.s t.coins (length buffer)) ≡ 0 → i ≡ (numbers t).d
-    by-dealer buffer e =
+    by_dealer : (buffer : List ℕ) → first_of (deal_rows x t.s t.coins (length buffer)) ≡ 0 → i ≡ (numbers t).d
+    by_dealer buffer e =
         eqb-true i (numbers t).d
         (subst (λ (u : SetUp). eqb u.i u.d ≡ true) own-setup (deal_passed x t.s t.coins (length buffer) e).dealer)
 
-    pub deal-alike : sound x ≡ true → sound (moved_record t i x) ≡ true → (buffer : List ℕ)
+    pub deal_alike : sound x ≡ true → sound (moved_record t i x) ≡ true → (buffer : List ℕ)
         → DoneAlike t i (deal x t.s t.coins buffer) (deal (moved_record t i x) t.s' (coins' t) buffer)
     unfolding deal
-    deal-alike hx hy buffer =
+    deal_alike hx hy buffer =
         answered_alike t i _ _ _ _ x (moved_record t i x) buffer
         (ap (λ (r : Refusal). r.number) (rows_same hx hy t.s t.s' t.coins (coins' t) buffer
-        (own-keep t.s t.coins ∙ h.coins_keep_lem ∙ sym (own-keep t.s' (coins' t) ∙ coins_keep' t h))))
-        (λ e. deal-step (by-dealer buffer e)) (λ e. refl)
+        (own_keep t.s t.coins ∙ h.coins_keep_lem ∙ sym (own_keep t.s' (coins' t) ∙ coins_keep' t h))))
+        (λ e. deal_step_lem (by_dealer buffer e)) (λ e. refl)
 
     -- a deal that both refuse
-    pub refused-alike : sound x ≡ true → sound (moved_record t i x) ≡ true → (s : ℕ) (cs buffer : List ℕ) → coins_keep (numbers t) s cs ≡ false
+    pub refused_alike : sound x ≡ true → sound (moved_record t i x) ≡ true → (s : ℕ) (cs buffer : List ℕ) → coins_keep (numbers t) s cs ≡ false
         → DoneAlike t i (deal x s cs buffer) (deal (moved_record t i x) s cs buffer)
     unfolding deal
-    refused-alike hx hy s cs buffer bad =
+    refused_alike hx hy s cs buffer bad =
         answered_alike t i _ _ _ _ x (moved_record t i x) buffer
         (ap (λ (r : Refusal). r.number) (rows_same hx hy s s cs cs buffer refl))
-        (λ e. absurd (true≢false (sym (deal_passed x s cs (length buffer) e).keeps ∙ own-keep s cs ∙ bad))) (λ e. refl)
+        (λ e. absurd (true≢false (sym (deal_passed x s cs (length buffer) e).keeps ∙ own_keep s cs ∙ bad))) (λ e. refl)

@@ -33,7 +33,7 @@ use Rattle.demands.specs.Terms.Histories.{own}
 use Rattle.demands.specs.Hiding.Moves.{Twice, numbers, in_set, dealt, zed, moved_message, moved_record, slot-moved, moved_four}
 use Rattle.demands.specs.Hiding.Hypotheses.{Given}
 use Rattle.demands.specs.Hiding.Unseen.{point_unseen, polynomials_unseen}
-use Rattle.demands.specs.Hiding.Steps.{MovedStep, matrix-moved, send_moved, Ripe, point-step-moved}
+use Rattle.demands.specs.Hiding.Steps.{MovedStep, matrix-moved, send_moved, Ripe, point_step_moved}
 use Rattle.demands.specs.Hiding.Outcomes.{DoneAlike, answered_alike, row_alike, call_alike}
 use Rattle.demands.specs.Hiding.Arrivals.{Arrives}
 use Rattle.demands.specs.Own.{own_matrix, own_message, own_exponents}
@@ -78,22 +78,22 @@ module _ (t : Twice) (h : Given t) (i : ℕ) (x : Record) (own-setup : x.setup �
 
   module _ (from : ℕ) (bytes bytes' : List ℕ) (a : Arrives t i from bytes bytes') where
     -- what the message says goes by the session's numbers, not by the box's own
-    form-same : malformed x.setup bytes ≡ malformed x.setup bytes'
+    form_same : malformed x.setup bytes ≡ malformed x.setup bytes'
     unfolding malformed whole_length
-    form-same = rw own-setup (sym a.form)
+    form_same = rw own-setup (sym a.form)
 
     matrix_same : matrix_in x.setup bytes ≡ matrix_in x.setup bytes'
     unfolding matrix_in
     matrix_same = rw own-setup (sym a.matrix)
 
-    exponents-same : exponents_keep x.setup (message_in x.setup bytes) ≡ exponents_keep x.setup (message_in x.setup bytes')
-    exponents-same = rw own-setup (own_keeps bytes ∙ sym a.exponents ∙ sym (own_keeps bytes'))
+    exponents_same : exponents_keep x.setup (message_in x.setup bytes) ≡ exponents_keep x.setup (message_in x.setup bytes')
+    exponents_same = rw own-setup (own_keeps bytes ∙ sym a.exponents ∙ sym (own_keeps bytes'))
 
-    said-moved : is_box x.setup from ≡ true → (tag_in bytes ≡ 1 → from ≡ x.setup.d)
+    said_moved : is_box x.setup from ≡ true → (tag_in bytes ≡ 1 → from ≡ x.setup.d)
         → exponents_keep x.setup (message_in x.setup bytes) ≡ true
         → message_in x.setup bytes' ≡ moved_message t from i (message_in x.setup bytes)
     unfolding is_box
-    said-moved =
+    said_moved =
         subst
         (λ (u : SetUp). is_box u from ≡ true → (tag_in bytes ≡ 1 → from ≡ u.d)
         → exponents_keep u (message_in u bytes) ≡ true
@@ -102,8 +102,8 @@ module _ (t : Twice) (h : Given t) (i : ℕ) (x : Record) (own-setup : x.setup �
         (λ box dealer keeps.
         own_message (numbers t) i bytes' ∙ a.says box dealer (sym (own_keeps bytes) ∙ keeps) ∙ ap (moved_message t from i) (sym (own_message (numbers t) i bytes)))
 
-    from-dealer : eqb (tag_in bytes) 1 and not (eqb from x.setup.d) ≡ false → tag_in bytes ≡ 1 → from ≡ x.setup.d
-    from-dealer z e = eqb-true from x.setup.d (not-false _ (and_rest (eqb (tag_in bytes) 1) _ z (eq-eqb _ 1 e)))
+    from_dealer : eqb (tag_in bytes) 1 and not (eqb from x.setup.d) ≡ false → tag_in bytes ≡ 1 → from ≡ x.setup.d
+    from_dealer z e = eqb-true from x.setup.d (not-false _ (and_rest (eqb (tag_in bytes) 1) _ z (eq-eqb _ 1 e)))
 
     rows_same : sound x ≡ true → sound x' ≡ true → (buffer : List ℕ)
         → first_row (deliver_rows x from bytes (length buffer)) ≡ first_row (deliver_rows x' from bytes' (length buffer))
@@ -113,16 +113,16 @@ module _ (t : Twice) (h : Given t) (i : ℕ) (x : Record) (own-setup : x.setup �
         let marks = ap has_matrix tag in
         call_alike x _ (length buffer) _ _ hx hy
         (row_alike _ _ _ _ refl refl refl (λ z1.
-        row_alike _ _ _ _ refl refl form-same (λ z2.
+        row_alike _ _ _ _ refl refl form_same (λ z2.
         row_alike _ _ _ _ refl refl (rw own-setup (sym a.session)) (λ z3.
         row_alike _ _ _ _ refl refl (ap (λ v. eqb v 1 and not (eqb from x.setup.d)) tag) (λ z4.
         row_alike _ _ _ _ refl refl (ap (λ v. eqb v 4 and not (is_done x.progress.completion and x.progress.commanded)) tag) (λ z5.
         row_alike _ _ _ _ refl refl (ap (λ v. eqb v 4 and is_there x.recovered.kept) tag) (λ z6.
         row_alike _ _ _ _ refl refl (ap (λ v. heard_for x v (from - 1)) tag) (λ z7.
         row_alike _ _ _ _ refl marks (ap₂ (λ v C. has_matrix v and not (matrix_passes (group_in x) x.setup.k C)) tag matrix_same) (λ z8.
-        row_alike _ _ _ _ refl marks (ap not exponents-same) (λ z9.
+        row_alike _ _ _ _ refl marks (ap not exponents_same) (λ z9.
         row_alike _ _ _ _ refl marks
-        (ap not (sym (ap (checks x' from) (said-moved (not-false _ z1) (from-dealer z4) (not-false _ z9))
+        (ap not (sym (ap (checks x' from) (said_moved (not-false _ z1) (from_dealer z4) (not-false _ z9))
         ∙ checks_moved from (message_in x.setup bytes))))
         (λ z10. refl)))))))))))
 
@@ -138,9 +138,9 @@ module _ (t : Twice) (h : Given t) (i : ℕ) (x : Record) (own-setup : x.setup �
       swapped : zed t i * zed t (from - 1 + 1) ≡ zed t from * zed t i
       swapped = ap (λ v. zed t i * zed t v) back ∙ mul_comm (zed t i) (zed t from)
 
-      send-takes : tag_in bytes ≡ 1 → Takes (send (matrix_in x.setup bytes) (polynomials_in x.setup bytes))
+      send_takes : tag_in bytes ≡ 1 → Takes (send (matrix_in x.setup bytes) (polynomials_in x.setup bytes))
       unfolding Takes heard
-      send-takes e =
+      send_takes e =
           let dealer : from ≡ (numbers t).d = c.hearing.dealer e ∙ ap (λ (u : SetUp). u.d) own-setup in
           let D : matrix_in x.setup bytes ≡ dealt t =
           ap (λ (u : SetUp). matrix_in u bytes) own-setup ∙ own_matrix (numbers t) i bytes
@@ -148,25 +148,25 @@ module _ (t : Twice) (h : Given t) (i : ℕ) (x : Record) (own-setup : x.setup �
           (a.whose (sym (own_box from) ∙ c.hearing.box) (omega arith)) in
           rw D (send_moved t h i (heard x 1 (from - 1)) own-setup (polynomials_in x.setup bytes))
 
-      point-takes : (b : Side) → tag_in bytes ≡ ear b + 1
+      point_takes : (b : Side) → tag_in bytes ≡ ear b + 1
           → MovedStep t i (point_step b (heard x (ear b + 1) (from - 1)) (from - 1) (matrix_in x.setup bytes) (four_in x.setup bytes))
           (point_step b (heard x' (ear b + 1) (from - 1)) (from - 1) (matrix_in x.setup bytes) (moved_four t (zed t from * zed t i) (four_in x.setup bytes)))
       unfolding heard slot_for own_slot free_slot
-      point-takes b e =
+      point_takes b e =
           rw (← swapped)
-          (point-step-moved t h i (heard x (ear b + 1) (from - 1)) own-setup (from - 1) (matrix_in x.setup bytes) (four_in x.setup bytes) b
+          (point_step_moved t h i (heard x (ear b + 1) (from - 1)) own-setup (from - 1) (matrix_in x.setup bytes) (four_in x.setup bytes) b
           (ripe b e))
 
       -- no recovery share is taken
-      no-recovery : tag_in bytes ≡ 4 → ⊥
-      no-recovery e =
+      no_recovery : tag_in bytes ≡ 4 → ⊥
+      no_recovery e =
           true≢false (sym (and_right (is_done x.progress.completion) _ (c.hearing.commanded e)) ∙ uncommanded)
 
       takes : Takes (message_in x.setup bytes)
       unfolding Takes
       takes =
-          by_tag u bytes c.hearing.form (λ e. of _ (is_send_lem u bytes e) (send-takes e)) (λ e. of _ (is_echo_lem u bytes e) (point-takes ByEcho e))
-          (λ e. of _ (is_ready_lem u bytes e) (point-takes ByReady e)) (λ e. absurd (no-recovery e))
+          by_tag u bytes c.hearing.form (λ e. of _ (is_send_lem u bytes e) (send_takes e)) (λ e. of _ (is_echo_lem u bytes e) (point_takes ByEcho e))
+          (λ e. of _ (is_ready_lem u bytes e) (point_takes ByReady e)) (λ e. absurd (no_recovery e))
         where
           u : SetUp
           u = x.setup
@@ -176,22 +176,22 @@ module _ (t : Twice) (h : Given t) (i : ℕ) (x : Record) (own-setup : x.setup �
 
     -- ---- the delivery
 
-    refusal-moved : (m : Bool) → refusal_heard m x' from bytes' ≡ moved_record t i (refusal_heard m x from bytes)
+    refusal_moved : (m : Bool) → refusal_heard m x' from bytes' ≡ moved_record t i (refusal_heard m x from bytes)
     unfolding refusal_heard heard
-    refusal-moved m =
+    refusal_moved m =
         rw a.tag
         (elim m as (λ b. pick b (heard x' (tag_in bytes) (from - 1)) x' ≡ moved_record t i (pick b (heard x (tag_in bytes) (from - 1)) x))
         [ true ↦ refl | false ↦ refl ])
 
-    pub deliver-alike : sound x ≡ true → sound x' ≡ true → (buffer : List ℕ)
+    pub deliver_alike : sound x ≡ true → sound x' ≡ true → (buffer : List ℕ)
         → (first_of (deliver_rows x from bytes (length buffer)) ≡ 0 → RipeIfSent t x from bytes) → x.progress.commanded ≡ false
         → DoneAlike t i (deliver x from bytes buffer) (deliver x' from bytes' buffer)
     unfolding deliver Takes
-    deliver-alike hx hy buffer ripe uncommanded =
+    deliver_alike hx hy buffer ripe uncommanded =
         let same = rows_same hx hy buffer in
         answered_alike t i (first_of (deliver_rows x from bytes (length buffer))) (first_of (deliver_rows x' from bytes' (length buffer))) _ _ _ _ buffer
         (ap (λ (r : Refusal). r.number) same)
         (λ e.
         let c = rows_passed x from bytes (length buffer) e in
-        rw (said-moved c.hearing.box c.hearing.dealer c.exponents) (takes c (ripe e) uncommanded))
-        (λ e. rw (← same) (refusal-moved (first_row (deliver_rows x from bytes (length buffer))).marks))
+        rw (said_moved c.hearing.box c.hearing.dealer c.exponents) (takes c (ripe e) uncommanded))
+        (λ e. rw (← same) (refusal_moved (first_row (deliver_rows x from bytes (length buffer))).marks))

@@ -1,7 +1,7 @@
 -- What demand 3 is given: a class whose numbers keep their rules, a set of at most k - 1 boxes without the dealer, two secrets below q, and
 -- coins for the one.
 --
--- In order: the hypotheses; the numbers; every box is taken at set-up; what is known of the matching coins.
+-- In order: the hypotheses; the numbers; every box is taken at set_up_lem; what is known of the matching coins.
 -- Assumes nothing.
 use Rattle.std.specs.Prelude.{◌≡◌, true, false, ℕ, ◌*◌, ◌<◌, ◌%◌}
 use Rattle.std.proofs.Common.{mod-lt}
@@ -20,7 +20,7 @@ use Rattle.demands.specs.Sharing
 use Rattle.demands.specs.Terms.Dealing.{group, Sound, dealt_matrix, dealt_to}
 use Rattle.demands.specs.Sharing.{rule, order_some}
 use Rattle.demands.specs.Terms.Secrets.{Few, z}
-use Rattle.demands.specs.Matching.{z_on_set, move_unseen, matching-keeps, matching-matrix, matching-sends}
+use Rattle.demands.specs.Matching.{z_on_set, move_unseen, matching_keeps, matching_matrix, matching_sends}
 use Rattle.demands.specs.Hiding.Moves.{Twice, numbers, in_set, q, coins', dealt, zed, shifted, shifted'}
 
 -- ---- the hypotheses
@@ -55,13 +55,13 @@ module _ (t : Twice) (h : Given t) where
   -- ---- every box is taken
 
   pub dealer_box : is_box (numbers t) (numbers t).d ≡ true
-  dealer_box = Own.dealer-box (numbers t) h.group_keeps_lem h.numbers_keep_lem
+  dealer_box = Own.dealer_box (numbers t) h.group_keeps_lem h.numbers_keep_lem
 
   pub own_fits : (i : ℕ) → is_box (numbers t) i ≡ true → SetUpFits (own (numbers t) i)
-  own_fits i e = setup_fits (own (numbers t) i) (Own.own-keeps (numbers t) h.group_keeps_lem h.numbers_keep_lem i e)
+  own_fits i e = setup_fits (own (numbers t) i) (Own.own_keeps (numbers t) h.group_keeps_lem h.numbers_keep_lem i e)
 
   pub own_taken : (i : ℕ) → is_box (numbers t) i ≡ true → (set_up (own (numbers t) i)).answer.no ≡ 0
-  own_taken = Own.own-taken (numbers t) h.group_keeps_lem h.numbers_keep_lem
+  own_taken = Own.own_taken (numbers t) h.group_keeps_lem h.numbers_keep_lem
 
   -- ---- the matching coins
 
@@ -75,10 +75,10 @@ module _ (t : Twice) (h : Given t) where
   unseen w x y = move_unseen (numbers t) sound_numbers (in_set t) h.few t.s t.s' h.low h.low' x y w
 
   pub coins_keep' : coins_keep (numbers t) t.s' (coins' t) ≡ true
-  coins_keep' = matching-keeps (numbers t) sound_numbers (in_set t) h.few t.s t.s' h.low h.low' t.coins h.coins_keep_lem
+  coins_keep' = matching_keeps (numbers t) sound_numbers (in_set t) h.few t.s t.s' h.low h.low' t.coins h.coins_keep_lem
 
   pub same_matrix_lem : dealt_matrix (numbers t) t.s' (coins' t) ≡ dealt t
-  same_matrix_lem = matching-matrix (numbers t) sound_numbers (in_set t) h.few t.s t.s' h.low h.low' t.coins h.coins_keep_lem
+  same_matrix_lem = matching_matrix (numbers t) sound_numbers (in_set t) h.few t.s t.s' h.low h.low' t.coins h.coins_keep_lem
 
   -- coefficient l of what box j gets
   module _ (j l : ℕ) (lt : l < (numbers t).k) where
@@ -91,9 +91,9 @@ module _ (t : Twice) (h : Given t) where
     abbrev w : ℕ
     w = zed t j * z (numbers t) (in_set t) l
 
-    pub dealt-moves : (coefficient P'.a l ≡ shifted t w (coefficient P.a l))
+    pub dealt_moves : (coefficient P'.a l ≡ shifted t w (coefficient P.a l))
         × (coefficient P'.a2 l ≡ shifted' t w (coefficient P.a2 l))
         × (coefficient P'.b l ≡ shifted t w (coefficient P.b l))
         × (coefficient P'.b2 l ≡ shifted' t w (coefficient P.b2 l))
-    dealt-moves =
-        matching-sends (numbers t) sound_numbers (in_set t) h.few t.s t.s' h.low h.low' t.coins h.coins_keep_lem j l lt
+    dealt_moves =
+        matching_sends (numbers t) sound_numbers (in_set t) h.few t.s t.s' h.low h.low' t.coins h.coins_keep_lem j l lt

@@ -32,16 +32,16 @@ pub answered_alike : (t : Twice) (i n n' : ℕ) (st st' : Step) (after after' : 
 unfolding accepted refused
 answered_alike t i n n' st st' after after' buffer same taken refusal = rw (← same) (go (ℕ_discrete n 0))
   where
-    length-alike : SentAlike t i st.bytes st'.bytes → length st.bytes ≡ length st'.bytes
-    length-alike (inl w) = ap length w.0 ∙ ap length (sym w.1)
-    length-alike (inr w) = twin_length t i _ _ w
+    length_alike : SentAlike t i st.bytes st'.bytes → length st.bytes ≡ length st'.bytes
+    length_alike (inl w) = ap length w.0 ∙ ap length (sym w.1)
+    length_alike (inr w) = twin_length t i _ _ w
 
     by : Step → Done
     by step = done (accepted step) (written step.bytes buffer)
 
-    wrote-alike : SentAlike t i st.bytes st'.bytes → (length st.bytes ≡ 0) ⊎ Twin t i (wrote (by st)) (wrote (by st'))
-    wrote-alike (inl w) = inl (ap length w.0)
-    wrote-alike (inr w) = inr (rw (take-written st.bytes buffer, take-written st'.bytes buffer) w)
+    wrote_alike : SentAlike t i st.bytes st'.bytes → (length st.bytes ≡ 0) ⊎ Twin t i (wrote (by st)) (wrote (by st'))
+    wrote_alike (inl w) = inl (ap length w.0)
+    wrote_alike (inr w) = inr (rw (take-written st.bytes buffer, take-written st'.bytes buffer) w)
 
     go : Dec (n ≡ 0) → DoneAlike t i (answered n st after buffer) (answered n st' after' buffer)
     go (yes e) =
@@ -49,8 +49,8 @@ answered_alike t i n n' st st' after after' buffer same taken refusal = rw (← 
         rw (answered_accepted n st after buffer e, answered_accepted n st' after' buffer e)
         (record {
           next = m.after;
-          answer = rw (m.sent, m.completed, m.recovered, length-alike m.bytes);
-          sent = wrote-alike m.bytes;
+          answer = rw (m.sent, m.completed, m.recovered, length_alike m.bytes);
+          sent = wrote_alike m.bytes;
         })
     go (no z) =
         rw (answered_refused n st after buffer z, answered_refused n st' after' buffer z)

@@ -37,7 +37,7 @@ use Rattle.demands.specs.Terms.Lives.{checks_now, takes_now, said}
 use Rattle.demands.specs.Lives.{life_sound, places_say}
 use Rattle.demands.specs.Lives.Stepped.{step_of}
 use Rattle.demands.specs.Lives.Took.{sends_now, slot_sent}
-use Rattle.demands.specs.Lives.Deliveries.{has-passed, out-message}
+use Rattle.demands.specs.Lives.Deliveries.{has_passed, out_message}
 use Rattle.demands.specs.Lives.Born.{good, facts_at}
 use Rattle.demands.specs.Lives.Points.{points_differ}
 use Rattle.demands.specs.Lives.Readies.{enough, used-there}
@@ -175,7 +175,7 @@ module _ (t : Twice) (h : Given t) (i : ℕ) (box-i : is_box (numbers t) i ≡ t
     g = good me taken_up cs
 
     came : Passed x from bytes
-    came = has-passed x g from bytes lent n
+    came = has_passed x g from bytes lent n
 
     sent : (b : Side) (C : List (List Element)) (f : Four) → (doing x (gets from bytes lent)).outcome ≡ accepted (step_of b x (from - 1) C f)
         → Found x C (slot_for x C) → sends_now b x (from - 1) C f ≡ true → Ripe t (taken b (opened C (slot_at x (slot_for x C))) (from - 1) f)
@@ -184,10 +184,10 @@ module _ (t : Twice) (h : Given t) (i : ℕ) (box-i : is_box (numbers t) i ≡ t
         let slot = ap (λ (o : Outcome). slot_at o.next (slot_for x C)) out ∙ slot_sent b x g (from - 1) C f found first in
         subst (Ripe t) slot (ripe_next (slot_for x C) found.within (ap (λ (v : Slot). is_there v.pair.kept) slot))
 
-    pub ripe-if-sent : RipeIfSent t x from bytes
-    ripe-if-sent ByEcho e =
-        sent ByEcho _ _ (out-message x g from bytes lent n _ (is_echo_lem x.setup bytes e))
+    pub ripe_if_sent : RipeIfSent t x from bytes
+    ripe_if_sent ByEcho e =
+        sent ByEcho _ _ (out_message x g from bytes lent n _ (is_echo_lem x.setup bytes e))
         (room x (from - 1) _ (facts_sound x g.facts) came.hearing.within ByEcho (rw e at came.hearing.unheard))
-    ripe-if-sent ByReady e =
-        sent ByReady _ _ (out-message x g from bytes lent n _ (is_ready_lem x.setup bytes e))
+    ripe_if_sent ByReady e =
+        sent ByReady _ _ (out_message x g from bytes lent n _ (is_ready_lem x.setup bytes e))
         (room x (from - 1) _ (facts_sound x g.facts) came.hearing.within ByReady (rw e at came.hearing.unheard))

@@ -19,7 +19,7 @@ use Rattle.rules.specs.Messages.{Message, send, echo, ready, recovery, two_bytes
 use Rattle.rules.specs.Dealing.{coefficients_below, polynomials_below, four_below}
 use Rattle.rules.specs.Laws.Lengths.{length-to_each}
 use Rattle.rules.specs.Laws.RoundTrip.{MatrixFits, PolynomialFits, PolynomialsFit, FourFits, Fits}
-use Rattle.rules.specs.Laws.Ranges.{four_room, remainders_room, dealt-room}
+use Rattle.rules.specs.Laws.Ranges.{four_room, remainders_room, dealt_room}
 use Rattle.demands.specs.Terms.Histories.{message_to}
 use Rattle.demands.specs.MessageTo.{message_to_lem}
 use Rattle.demands.specs.Terms.Secrets.{z, difference, difference'}
@@ -48,7 +48,7 @@ module _ (t : Twice) (h : Given t) where
   -- ---- it is read as it was written
 
   dealt_fits : MatrixFits (numbers t).k (dealt t)
-  dealt_fits = dealt-room (numbers t) h.group_keeps_lem (size t h).high _ _
+  dealt_fits = dealt_room (numbers t) h.group_keeps_lem (size t h).high _ _
 
   four_fits : (f : Four) → four_below (q t) f ≡ true → FourFits f
   four_fits = four_room (numbers t) h.group_keeps_lem (size t h).high
@@ -81,34 +81,34 @@ module _ (t : Twice) (h : Given t) where
     nil : (w : ℕ) → zed t j * w ≡ 0
     nil w = ap (λ v. v * w) still ∙ omega arith
 
-    side-still : (d : ℕ) (a : List Exponent) → coefficients_below (q t) (numbers t).k a ≡ true
+    side_still : (d : ℕ) (a : List Exponent) → coefficients_below (q t) (numbers t).k a ≡ true
         → coefficient_bytes (numbers t).k (moved_by t (λ w x. (x + d * w) % q t) j a) ≡ coefficient_bytes (numbers t).k a
     unfolding coefficient_bytes coefficients_below
-    side-still d a b =
+    side_still d a b =
         gather-same _ _ (numbers t).k (λ l lt. ap two_bytes (coefficient_moved t h (λ w x. (x + d * w) % q t) j a l lt
         ∙ number_still t h d (zed t j * z (numbers t) (in_set t) l) (coefficient a l) (nil _)
         (ltb-true _ _ (all_below_at _ (numbers t).k l b lt))))
 
-    polynomials-still : (P : Polynomials) → polynomials_below (q t) (numbers t).k P ≡ true
+    polynomials_still : (P : Polynomials) → polynomials_below (q t) (numbers t).k P ≡ true
         → polynomial_bytes (numbers t) (moved_polynomials t j P) ≡ polynomial_bytes (numbers t) P
     unfolding polynomial_bytes polynomials_below
-    polynomials-still P b =
+    polynomials_still P b =
         let b1 = and_right (coefficients_below (q t) (numbers t).k P.a) _ b in
         let b2 = and_right (coefficients_below (q t) (numbers t).k P.a2) _ b1 in
         let δ = difference (numbers t) t.s t.s' in
         let δ' = difference' (numbers t) t.s t.s' in
         rw (
-          side-still δ P.a (and_left _ _ b),
-          side-still δ' P.a2 (and_left _ _ b1),
-          side-still δ P.b (and_left _ _ b2),
-          side-still δ' P.b2 (and_right (coefficients_below (q t) (numbers t).k P.b) _ b2),
+          side_still δ P.a (and_left _ _ b),
+          side_still δ' P.a2 (and_left _ _ b1),
+          side_still δ P.b (and_left _ _ b2),
+          side_still δ' P.b2 (and_right (coefficients_below (q t) (numbers t).k P.b) _ b2),
         )
 
     pub set-bytes : (m : Message) → Proper t i m → bytes_of (numbers t) (moved_message t i j m) ≡ bytes_of (numbers t) m
     unfolding bytes_of body_of tag_of
     set-bytes (send C P) p =
         ap (λ (r : List ℕ). framed 1 ((numbers t).d ∷ two_bytes (numbers t).session ++ ((numbers t).k ∷ matrix_bytes (numbers t).k C ++ r)))
-        (polynomials-still P p.2)
+        (polynomials_still P p.2)
     set-bytes (echo C f) p =
         ap (λ (g : Four). bytes_of (numbers t) (echo C g)) (four_still t h (zed t i * zed t j) f (none (zed t i)) p.1)
     set-bytes (ready C f) p =

@@ -26,7 +26,7 @@ use Rattle.rules.specs.Matrices.{zero_four}
 use Rattle.rules.specs.Messages.{echo, ready, tag_of, bytes_of}
 use Rattle.rules.specs.Record.{slot_at, place_at, matrix_of, count_e, count_r, same_matrix, zero_slot}
 use Rattle.rules.specs.Steps.{with_slots, Said, pair_from, ready_four, echo_four, points, own_slot, free_slot, slot_for, opened, first_point, holding, keeping, Step, quiet, send_step, with_slot, ready_sent, lowest, completing, completed, completion_due, point_at, point_step, taken, ready_due}
-use Rattle.rules.specs.Laws.Checks.{echo-below, ready-below}
+use Rattle.rules.specs.Laws.Checks.{echo_below, ready_below}
 use Rattle.rules.specs.declared.Side.{Side}
 use Rattle.rules.specs.declared.Side.TheVariants.{ByEcho, ByReady}
 use Rattle.rules.specs.Laws.Kept.OpenSlot.{fresh}
@@ -34,7 +34,7 @@ use Rattle.demands.specs.Terms.Histories.{own}
 use Rattle.demands.specs.Terms.Dealing.{Different}
 use Rattle.demands.specs.Hiding.Moves.{Twice, numbers, q, dealt, zed, moved_four, moved_pair, moved_polynomials, moved_point, moved_place, moved_said, movedSlot, moved_record, slot-moved, place_moved, lowest_moved}
 use Rattle.demands.specs.Hiding.Hypotheses.{Given, q_some}
-use Rattle.demands.specs.Hiding.Values.{echo_moved, ready_moved, pair-moved}
+use Rattle.demands.specs.Hiding.Values.{echo_moved, ready_moved, pair_moved}
 use Rattle.demands.specs.Hiding.SentTwice.{Twin}
 use Rattle.demands.specs.Own.{own_each, each_same, ready_bytes}
 
@@ -149,7 +149,7 @@ module _ (t : Twice) (h : Given t) (i : ℕ) where
           says = λ j. echo (dealt t) (echo_four (q t) (numbers t).k P j);
           tag = 2;
           one_tag = λ j. refl;
-          proper = λ j. (refl, echo-below (q t) (q_some t h) (numbers t).k P j);
+          proper = λ j. (refl, echo_below (q t) (q_some t h) (numbers t).k P j);
           first = rw e (own_each (numbers t) i _);
           second = rw e (own_each (numbers t) i _
               ∙ each_same (numbers t) _ _ (λ j. ap (λ (f : Four). bytes_of (numbers t) (echo (dealt t) f)) (echo_moved t h i j P)));
@@ -157,19 +157,19 @@ module _ (t : Twice) (h : Given t) (i : ℕ) where
       }
 
   module _ (x : Record) (e : x.setup ≡ own (numbers t) i) (s : ℕ) (slot : Slot) where
-    lowest-points : lowest (moved_record t i x) (movedSlot t i slot) ≡ map (moved_said t i) (lowest x slot)
-    lowest-points = lowest_moved t i slot x.setup.k
+    lowest_points : lowest (moved_record t i x) (movedSlot t i slot) ≡ map (moved_said t i) (lowest x slot)
+    lowest_points = lowest_moved t i slot x.setup.k
 
-    ready-sent : Ripe t slot
+    ready_sent_lem : Ripe t slot
         → MovedStep t i (ready_sent x s slot (lowest x slot))
         (ready_sent (moved_record t i x) s (movedSlot t i slot) (lowest (moved_record t i x) (movedSlot t i slot)))
     unfolding ready_sent tag_of
-    ready-sent ripe =
+    ready_sent_lem ripe =
         let ps : List (Said Four) = take (numbers t).k (points slot.places) in
-        rw (lowest-points, e)
+        rw (lowest_points, e)
         (record {
           after =
-              rw (pair-moved t h i ps ripe.0, keeping_moved t i slot (pair_from (q t) ps))
+              rw (pair_moved t h i ps ripe.0, keeping_moved t i slot (pair_from (q t) ps))
               (rw (← e) (slot_put t i x s (keeping slot (pair_from (q t) ps))));
           sent = refl;
           completed = refl;
@@ -178,7 +178,7 @@ module _ (t : Twice) (h : Given t) (i : ℕ) where
             says = λ j. ready (dealt t) (ready_four (q t) ps j);
             tag = 3;
             one_tag = λ j. refl;
-            proper = λ j. (refl, ready-below (q t) (q_some t h) ps j);
+            proper = λ j. (refl, ready_below (q t) (q_some t h) ps j);
             first = own_each (numbers t) i _ ∙ each_same (numbers t) _ _ (λ j. ready_bytes (numbers t) _ _ _ ripe.1);
             second = own_each (numbers t) i _ ∙ each_same (numbers t) _ _ (λ j.
                 ap₂ (λ C f. bytes_of (numbers t) (ready C f)) (matrix-moved t i slot) (ready_moved t h i ps ripe.0 j)
@@ -186,38 +186,38 @@ module _ (t : Twice) (h : Given t) (i : ℕ) where
           });
         })
 
-    still-moved : MovedStep t i (quiet (with_slot x s slot)) (quiet (with_slot (moved_record t i x) s (movedSlot t i slot)))
-    still-moved = rw (slot_put t i x s slot) (quiet_moved t i (with_slot x s slot))
+    still_moved : MovedStep t i (quiet (with_slot x s slot)) (quiet (with_slot (moved_record t i x) s (movedSlot t i slot)))
+    still_moved = rw (slot_put t i x s slot) (quiet_moved t i (with_slot x s slot))
 
-    done-moved : MovedStep t i (completed (with_slot x s slot) s) (completed (with_slot (moved_record t i x) s (movedSlot t i slot)) s)
+    done_moved : MovedStep t i (completed (with_slot x s slot) s) (completed (with_slot (moved_record t i x) s (movedSlot t i slot)) s)
     unfolding completed completing
-    done-moved =
+    done_moved =
         subst (λ (y : Record). MovedStep t i (completed (with_slot x s slot) s) (completed y s)) (sym (slot_put t i x s slot))
         (record { after = refl; sent = refl; completed = refl; recovered = refl; bytes = inl (refl, refl) })
 
-    due-moved : (b : Side) → ready_due x.setup b (movedSlot t i slot) ≡ ready_due x.setup b slot
-    due-moved ByEcho = rw (e-moved t i slot, r-moved t i slot)
-    due-moved ByReady = rw (e-moved t i slot, r-moved t i slot)
+    due_moved : (b : Side) → ready_due x.setup b (movedSlot t i slot) ≡ ready_due x.setup b slot
+    due_moved ByEcho = rw (e-moved t i slot, r-moved t i slot)
+    due_moved ByReady = rw (e-moved t i slot, r-moved t i slot)
 
-    completion-moved : (b : Side) → completion_due x.setup b (movedSlot t i slot) ≡ completion_due x.setup b slot
-    completion-moved ByEcho = refl
-    completion-moved ByReady = rw (r-moved t i slot)
+    completion_moved : (b : Side) → completion_due x.setup b (movedSlot t i slot) ≡ completion_due x.setup b slot
+    completion_moved ByEcho = refl
+    completion_moved ByReady = rw (r-moved t i slot)
 
     point_at_lem : (b : Side) → (ready_due x.setup b slot ≡ true → Ripe t slot)
         → MovedStep t i (point_at b x s slot) (point_at b (moved_record t i x) s (movedSlot t i slot))
     unfolding point_at
     point_at_lem b ripe =
-        rw (due-moved b, completion-moved b)
-        (pick_two (MovedStep t i) (ready_due x.setup b slot) _ _ _ _ (λ w. ready-sent (ripe w))
-        (λ w. pick_two (MovedStep t i) (completion_due x.setup b slot) _ _ _ _ (λ c. done-moved) (λ c. still-moved)))
+        rw (due_moved b, completion_moved b)
+        (pick_two (MovedStep t i) (ready_due x.setup b slot) _ _ _ _ (λ w. ready_sent_lem (ripe w))
+        (λ w. pick_two (MovedStep t i) (completion_due x.setup b slot) _ _ _ _ (λ c. done_moved) (λ c. still_moved)))
 
   -- a message of side b from sender m + 1 is taken into the slot of its matrix
   module _ (x : Record) (e : x.setup ≡ own (numbers t) i) (m : ℕ) (C : List (List Element)) (f : Four) where
     abbrev here : ℕ
     here = slot_for x C
 
-    open-here : opened C (slot_at (moved_record t i x) (slot_for (moved_record t i x) C)) ≡ movedSlot t i (opened C (slot_at x here))
-    open-here =
+    open_here : opened C (slot_at (moved_record t i x) (slot_for (moved_record t i x) C)) ≡ movedSlot t i (opened C (slot_at x here))
+    open_here =
         ap (λ (s : ℕ). opened C (slot_at (moved_record t i x) s)) (slot_for_lem t i x C)
         ∙ ap (opened C) (slot-moved t i x here)
         ∙ opened_moved t i C (slot_at x here)
@@ -225,12 +225,12 @@ module _ (t : Twice) (h : Given t) (i : ℕ) where
     abbrev pub RipeAt : Side → Type 0
     RipeAt b = ready_due x.setup b (taken b (opened C (slot_at x here)) m f) ≡ true → Ripe t (taken b (opened C (slot_at x here)) m f)
 
-    pub point-step-moved : (b : Side) → RipeAt b
+    pub point_step_moved : (b : Side) → RipeAt b
         → MovedStep t i (point_step b x m C f) (point_step b (moved_record t i x) m C (moved_four t (zed t i * zed t (m + 1)) f))
     unfolding point_step
-    point-step-moved b ripe =
+    point_step_moved b ripe =
         let slot : Slot = taken b (opened C (slot_at x here)) m f in
         subst (MovedStep t i (point_at b x here slot))
-        (sym (ap₂ (λ s v. point_at b (moved_record t i x) s (taken b v m (moved_four t (zed t i * zed t (m + 1)) f))) (slot_for_lem t i x C) open-here
+        (sym (ap₂ (λ s v. point_at b (moved_record t i x) s (taken b v m (moved_four t (zed t i * zed t (m + 1)) f))) (slot_for_lem t i x C) open_here
         ∙ ap (point_at b (moved_record t i x) here) (taken_moved t i b (opened C (slot_at x here)) m f)))
         (point_at_lem x e here slot b ripe)

@@ -1,6 +1,6 @@
 -- One box in two runs: its record moved, its answers the same, what it sent moved.
 --
--- In order: a command that leaves no mark; the two lives of a box, from set-up, and one call more; a message that it has sent.
+-- In order: a command that leaves no mark; the two lives of a box, from set_up_lem, and one call more; a message that it has sent.
 -- Assumes nothing.
 use Rattle.std.specs.Prelude.{◌≡◌, Bool, true, false, ◌⊎◌, eqb, ltb, get_or, replicate}
 use Rattle.std.proofs.Math.Path.{refl, ap, ap₂, subst}
@@ -29,9 +29,9 @@ use Rattle.demands.specs.Hiding.Hypotheses.{Given, own_taken}
 use Rattle.demands.specs.Hiding.SentTwice.{Proper, twin_to, Twins, twins_none, twins_more, twins_length, twins_at}
 use Rattle.demands.specs.Hiding.Outcomes.{DoneAlike, answered_alike, row_alike, call_alike}
 use Rattle.demands.specs.Hiding.Arrivals.{Arrives}
-use Rattle.demands.specs.Hiding.Deliveries.{deliver-alike}
-use Rattle.demands.specs.Hiding.Dealt.{deal-alike, refused-alike}
-use Rattle.demands.specs.Hiding.Ripe.{Honest, ripe-if-sent}
+use Rattle.demands.specs.Hiding.Deliveries.{deliver_alike}
+use Rattle.demands.specs.Hiding.Dealt.{deal_alike, refused_alike}
+use Rattle.demands.specs.Hiding.Ripe.{Honest, ripe_if_sent}
 
 -- ---- a command that leaves no mark
 
@@ -139,21 +139,21 @@ module _ (t : Twice) (h : Given t) (i : ℕ) (box-i : is_box (numbers t) i ≡ t
     is_sound : sound x ≡ true
     is_sound = (life_sound u (own_taken t h i box-i) cs).0
 
-    moved-sound : sound (moved_record t i x) ≡ true
-    moved-sound = subst (λ (y : Record). sound y ≡ true) w.same (life_sound u (own_taken t h i box-i) cs').0
+    moved_sound : sound (moved_record t i x) ≡ true
+    moved_sound = subst (λ (y : Record). sound y ≡ true) w.same (life_sound u (own_taken t h i box-i) cs').0
 
     pub both-deals : (lent : ℕ) → Both t i (deals t.s t.coins lent ∷ cs) (deals t.s' (coins' t) lent ∷ cs')
     unfolding doing Honest
     both-deals lent =
         more cs cs' (deals t.s t.coins lent) (deals t.s' (coins' t) lent) w
-        (deal-alike t h i x own-setup is_sound moved-sound (replicate lent 0))
+        (deal_alike t h i x own-setup is_sound moved_sound (replicate lent 0))
         w.honest
 
     pub both-refused : (s : ℕ) (l : List ℕ) (lent : ℕ) → coins_keep (numbers t) s l ≡ false → Both t i (deals s l lent ∷ cs) (deals s l lent ∷ cs')
     unfolding doing Honest
     both-refused s l lent bad =
         more cs cs' (deals s l lent) (deals s l lent) w
-        (refused-alike t h i x own-setup is_sound moved-sound s l (replicate lent 0) bad)
+        (refused_alike t h i x own-setup is_sound moved_sound s l (replicate lent 0) bad)
         w.honest
 
     pub both-gets : (from : ℕ) (bytes bytes' : List ℕ) (lent : ℕ) → Arrives t i from bytes bytes' → x.progress.commanded ≡ false
@@ -161,8 +161,8 @@ module _ (t : Twice) (h : Given t) (i : ℕ) (box-i : is_box (numbers t) i ≡ t
     unfolding doing Honest
     both-gets from bytes bytes' lent a unmarked =
         more cs cs' (gets from bytes lent) (gets from bytes' lent) w
-        (deliver-alike t h i x own-setup from bytes bytes' a is_sound moved-sound (replicate lent 0)
-        (ripe-if-sent t h i box-i cs from lent bytes (a.whose, w.honest)) unmarked)
+        (deliver_alike t h i x own-setup from bytes bytes' a is_sound moved_sound (replicate lent 0)
+        (ripe_if_sent t h i box-i cs from lent bytes (a.whose, w.honest)) unmarked)
         (a.whose, w.honest)
 
     pub both-commanded : (lent : ℕ) → (after u (commanded lent ∷ cs)).progress.commanded ≡ false
@@ -170,7 +170,7 @@ module _ (t : Twice) (h : Given t) (i : ℕ) (box-i : is_box (numbers t) i ≡ t
     unfolding doing after Honest
     both-commanded lent unmarked =
         more cs cs' (commanded lent) (commanded lent) w
-        (recover_alike t i x is_sound moved-sound (replicate lent 0) unmarked)
+        (recover_alike t i x is_sound moved_sound (replicate lent 0) unmarked)
         w.honest
 
   -- ---- a message that it has sent

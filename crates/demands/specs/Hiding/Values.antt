@@ -23,7 +23,7 @@ use Rattle.rules.specs.Dealing.{value_at}
 use Rattle.rules.specs.Steps.{Said, through, pair_from, ready_four, echo_four}
 use Rattle.rules.specs.Laws.Matrices.{coefficient_at}
 use Rattle.demands.specs.Terms.Dealing.{none, Different}
-use Rattle.demands.specs.Sharing.{box_at, sayAt, places, through-boxes}
+use Rattle.demands.specs.Sharing.{box_at, say_at, places, through_boxes}
 use Rattle.demands.specs.Terms.Secrets.{z, difference, difference'}
 use Rattle.demands.specs.Matching.{z_at}
 use Rattle.demands.specs.Hiding.Moves.{Twice, numbers, in_set, q, zed, moved_four, moved_pair, moved_by, moved_polynomials, moved_said}
@@ -54,10 +54,10 @@ module _ (t : Twice) (h : Given t) where
     abbrev by : ℕ → ℕ → ℕ
     by w x = (x + d * w) % q t
 
-    value-moved : (i x : ℕ) (a : List Exponent)
+    value_moved : (i x : ℕ) (a : List Exponent)
         → value_at (q t) (numbers t).k (moved_by t by i a) x ≡ by (zed t i * zed t x) (value_at (q t) (numbers t).k a x)
     unfolding value_at z_at
-    value-moved i x a =
+    value_moved i x a =
         let k = (numbers t).k in
         let zs = z (numbers t) (in_set t) in
         sum_moves (q t) k d (zed t i) x (coefficient a) (coefficient (moved_by t by i a)) zs
@@ -65,15 +65,15 @@ module _ (t : Twice) (h : Given t) where
         ∙ ap (λ v. (value_at (q t) k a x + d * v) % q t) (mul_comm (zed t x) (zed t i))
 
     -- through the points of different boxes
-    through-moved : {P : ℕ → Four → Type 0} (i x : ℕ) (ps : List (Said Four)) → Different (numbers t) zero_four ps P
+    through_moved : {P : ℕ → Four → Type 0} (i x : ℕ) (ps : List (Said Four)) → Different (numbers t) zero_four ps P
         → (number : Four → ℕ) → number zero_four ≡ 0 → ((w : ℕ) (f : Four) → number (moved_four t w f) ≡ by w (number f))
         → through (q t) (map (moved_said t i) ps) number x ≡ by (zed t i * zed t x) (through (q t) ps number x)
     unfolding through z_at
-    through-moved i x ps e number nought reads =
+    through_moved i x ps e number nought reads =
         let u = numbers t in
         let s = sound_numbers t h in
         let boxes : ℕ → ℕ = box_at u s e in
-        let says : ℕ → ℕ = λ j. number (sayAt u s e j) in
+        let says : ℕ → ℕ = λ j. number (say_at u s e j) in
         let moved : List (Said Four) = map (moved_said t i) ps in
         ap (λ n. interpolate (q t) n (λ j. get_or (map (λ p. p.box) moved) j 0) (λ j. get_or (map (λ p. number p.says) moved) j 0) x)
         (length-map ps (moved_said t i) ∙ e.count)
@@ -87,10 +87,10 @@ module _ (t : Twice) (h : Given t) where
         ap (λ v. v % q t)
         (ap (λ (m : List ℕ). get_or m j 0) (map-map (λ (p : Said Four). number p.says) (moved_said t i) ps)
         ∙ map_at (λ (p : Said Four). number (moved_said t i p).says) (none zero_four) 0 ps j lt
-        ∙ reads (zed t i * zed t (boxes j)) (sayAt u s e j)
+        ∙ reads (zed t i * zed t (boxes j)) (say_at u s e j)
         ∙ ap (λ v. (says j + d * v) % q t) (mul_comm (zed t i) (zed t (boxes j)))))
         ∙ interpolate_moves (q t) (q_prime t h) u.k boxes (places u s e) says (z u (in_set t)) d (zed t i) x
-        ∙ ap₂ (λ v w. (v + d * w) % q t) (sym (through-boxes u s e number nought x)) (mul_comm (zed t x) (zed t i))
+        ∙ ap₂ (λ v w. (v + d * w) % q t) (sym (through_boxes u s e number nought x)) (mul_comm (zed t x) (zed t i))
 
   abbrev δ : ℕ
   δ = difference (numbers t) t.s t.s'
@@ -103,7 +103,7 @@ module _ (t : Twice) (h : Given t) where
   unfolding echo_four
   echo_moved i j P =
       four_same _ _ _ _ _ _ _ _
-      (value-moved δ i j P.a) (value-moved δ' i j P.a2) (value-moved δ i j P.b) (value-moved δ' i j P.b2)
+      (value_moved δ i j P.a) (value_moved δ' i j P.a2) (value_moved δ i j P.b) (value_moved δ' i j P.b2)
 
   -- ---- from moved points
 
@@ -112,11 +112,11 @@ module _ (t : Twice) (h : Given t) where
     unfolding ready_four
     ready_moved j =
         four_same _ _ _ _ _ _ _ _
-        (through-moved δ i j ps e β refl (λ w f. refl)) (through-moved δ' i j ps e β' refl (λ w f. refl))
-        (through-moved δ i j ps e α refl (λ w f. refl)) (through-moved δ' i j ps e α' refl (λ w f. refl))
+        (through_moved δ i j ps e β refl (λ w f. refl)) (through_moved δ' i j ps e β' refl (λ w f. refl))
+        (through_moved δ i j ps e α refl (λ w f. refl)) (through_moved δ' i j ps e α' refl (λ w f. refl))
 
-    pub pair-moved : pair_from (q t) (map (moved_said t i) ps) ≡ moved_pair t (zed t i * zed t 0) (pair_from (q t) ps)
+    pub pair_moved : pair_from (q t) (map (moved_said t i) ps) ≡ moved_pair t (zed t i * zed t 0) (pair_from (q t) ps)
     unfolding pair_from
-    pair-moved =
+    pair_moved =
         pair_same _ _ _ _
-        (through-moved δ i 0 ps e β refl (λ w f. refl)) (through-moved δ' i 0 ps e β' refl (λ w f. refl))
+        (through_moved δ i 0 ps e β refl (λ w f. refl)) (through_moved δ' i 0 ps e β' refl (λ w f. refl))

@@ -31,12 +31,12 @@ use Rattle.rules.specs.Steps.{points, pair_from, ready_four}
 use Rattle.rules.specs.Answers.{set_up}
 use Rattle.rules.specs.Laws.Facts.{SlotFacts, ear}
 use Rattle.rules.specs.Laws.RoundTrip.{is_echo_lem, is_ready_lem}
-use Rattle.rules.specs.Laws.Ranges.{slot-room}
+use Rattle.rules.specs.Laws.Ranges.{slot_room}
 use Rattle.demands.specs.Terms.Honest.{Past, Deal}
 use Rattle.demands.specs.Terms.Histories.{Call, deals, gets, commanded, doing, after, own}
 use Rattle.demands.specs.Histories.{past_self, past_more, past_trans}
 use Rattle.demands.specs.Terms.Dealing.{order, dealt_matrix, dealt_point, dealt_share}
-use Rattle.demands.specs.Sharing.{size, points-give}
+use Rattle.demands.specs.Sharing.{size, points_give}
 use Rattle.demands.specs.Own.{own_taken}
 use Rattle.demands.specs.Terms.Lives.{checks_now, takes_now, four_of, said}
 use Rattle.demands.specs.Lives.{places_say}
@@ -44,7 +44,7 @@ use Rattle.demands.specs.Lives.Slots.{slot_of, slot-used}
 use Rattle.demands.specs.Lives.Born.{good, own-setup, numbers_keep_lem, facts_at}
 use Rattle.demands.specs.Lives.Counts.{first_cases}
 use Rattle.demands.specs.Lives.Readies.{used-there, said_differ, pair_holds}
-use Rattle.demands.specs.Honest.Messages.{Dealt, sound, matrix-room, agree_equal}
+use Rattle.demands.specs.Honest.Messages.{Dealt, sound, matrix_room, agree_equal}
 
 -- ---- a life in which what was accepted was dealt
 
@@ -98,11 +98,11 @@ module _ (u : SetUp) (secret : ℕ) (coins : List ℕ) (h : Deal u secret coins)
       let e3 = and_right (eqb (tag_in bytes) (ear b + 1)) _ e2 in
       let sender : from ≡ m = eqb-true from m (and_left _ _ e1) in
       let parts = point_parts b from bytes (eqb-true (tag_in bytes) (ear b + 1) (and_left _ _ e2)) (dealt (eqb-true _ 0 (and_left _ _ e))) in
-      let set-up = own-setup me is-taken cs in
+      let set_up_lem = own-setup me is-taken cs in
       let same : same_matrix u.k (matrix_in u bytes) D ≡ true =
-      subst (λ (v : SetUp). same_matrix v.k (matrix_in v bytes) D ≡ true) set-up e3 in (
+      subst (λ (v : SetUp). same_matrix v.k (matrix_in v bytes) D ≡ true) set_up_lem e3 in (
         subst (λ (C : List (List Element)). same_matrix u.k C D ≡ true) parts.0 same,
-        ap (λ (v : SetUp). four_in v bytes) set-up ∙ parts.1 ∙ ap (λ (j : ℕ). dealt_point u secret coins j i) sender,
+        ap (λ (v : SetUp). four_in v bytes) set_up_lem ∙ parts.1 ∙ ap (λ (j : ℕ). dealt_point u secret coins j i) sender,
       )
 
   pub said_dealt : (cs : List Call) → LifeDealt u secret coins i cs → (m : ℕ) (D : List (List Element)) (f : Four) → said me cs m D ≡ Held f
@@ -140,24 +140,24 @@ module _ (u : SetUp) (secret : ℕ) (coins : List ℕ) (h : Deal u secret coins)
     facts = facts_at me is-taken cs s l
 
     -- a held place says what was dealt, for the dealt matrix
-    place-says : (m : ℕ) (f : Four) → m < 10 → (place_at slot m).point ≡ Held f
+    place_says : (m : ℕ) (f : Four) → m < 10 → (place_at slot m).point ≡ Held f
         → (same_matrix u.k C₀ (matrix_of slot) ≡ true) × (f ≡ dealt_point u secret coins (m + 1) i)
-    place-says m f lm e =
+    place_says m f lm e =
         let used = facts.in_use ∙ any_below_here (held slot) 10 m lm (ap is_held e) in
         said_dealt cs dealt (m + 1) (matrix_of slot) f (sym (places_say me is-taken cs s m l lm used) ∙ e)
 
     pub point-dealt : (m : ℕ) (f : Four) → m < 10 → (place_at (slot_at (after (own u i) cs) s) m).point ≡ Held f
         → f ≡ dealt_point u secret coins (m + 1) i
-    point-dealt m f lm e = (place-says m f lm e).1
+    point-dealt m f lm e = (place_says m f lm e).1
 
     -- a slot in use has a held place
     pub matrix-dealt : (slot_at (after (own u i) cs) s).used ≡ true → matrix_of (slot_at (after (own u i) cs) s) ≡ dealt_matrix u secret coins
     matrix-dealt used =
         let some = any_below_some (held slot) 10 (sym facts.in_use ∙ used) in
         let f = held_some (place_at slot some.0).point some.2 in
-        let room = slot-room u h.group_keeps_lem (size u (sound u secret coins h)).high slot ((good me is-taken cs).shape.slot s l)
+        let room = slot_room u h.group_keeps_lem (size u (sound u secret coins h)).high slot ((good me is-taken cs).shape.slot s l)
         facts.contents.zero (facts.contents.passes used) in
-        sym (agree_equal u.k C₀ (matrix_of slot) (matrix-room u secret coins h) room (place-says some.0 f.0 some.1 f.1).0)
+        sym (agree_equal u.k C₀ (matrix_of slot) (matrix_room u secret coins h) room (place_says some.0 f.0 some.1 f.1).0)
 
   -- ---- what k points give
 
@@ -171,22 +171,22 @@ module _ (u : SetUp) (secret : ℕ) (coins : List ℕ) (h : Deal u secret coins)
       × (pair_from (order u) (take u.k (points (slot_of (after me cs) D).places)) ≡ dealt_share u secret coins i)
   unfolding f_of f'_of from_coins
   slot_gives cs dealt D there =
-      points-give me (numbers_keep_lem me is-taken) secret coins coins_own i _
+      points_give me (numbers_keep_lem me is-taken) secret coins coins_own i _
       (said_differ me is-taken D (λ m f. f ≡ dealt_point u secret coins m i) cs (λ m f e. (said_dealt cs dealt m D f e).1) there)
 
   module _ (cs : List Call) (dealt : LifeDealt u secret coins i cs) (s : ℕ) (l : s < 20)
       (there : is_there (slot_at (after (own u i) cs) s).pair.kept ≡ true) where
-    pub used-then : (slot_at (after (own u i) cs) s).used ≡ true
-    used-then =
+    pub used_then : (slot_at (after (own u i) cs) s).used ≡ true
+    used_then =
         let low = (size u (sound u secret coins h)).low in
         used-there me (slot_at (after me cs) s) (facts cs dealt s l) (omega arith) there
 
     here : slot_of (after me cs) (matrix_of (slot_at (after me cs) s)) ≡ slot_at (after me cs) s
-    here = slot-used (after me cs) (good me is-taken cs) s l used-then
+    here = slot-used (after me cs) (good me is-taken cs) s l used_then
 
-    pub ready-dealt : (j : ℕ)
+    pub ready_dealt : (j : ℕ)
         → ready_four (order u) (take u.k (points (slot_at (after (own u i) cs) s).places)) j ≡ dealt_point u secret coins i j
-    ready-dealt j =
+    ready_dealt j =
         ap (λ (w : Slot). ready_four (order u) (take u.k (points w.places)) j) (sym here)
         ∙ (slot_gives cs dealt _ (ap (λ (w : Slot). is_there w.pair.kept) here ∙ there)).0 j
 

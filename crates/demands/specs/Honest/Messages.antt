@@ -16,10 +16,10 @@ use Rattle.rules.specs.Record.{same_matrix}
 use Rattle.rules.specs.Laws.Numbers.{is_box_lem}
 use Rattle.rules.specs.Laws.Matrices.{matrix_same}
 use Rattle.rules.specs.Laws.Dealing.{value_below}
-use Rattle.rules.specs.Laws.Checks.{pair_below_lem, echo-below}
+use Rattle.rules.specs.Laws.Checks.{pair_below_lem, echo_below}
 use Rattle.rules.specs.Laws.Sound.{agree_at}
 use Rattle.rules.specs.Laws.RoundTrip.{MatrixFits, FourFits, Fits, message_there}
-use Rattle.rules.specs.Laws.Ranges.{four_room, pair_room, dealt-room, dealt-rooms}
+use Rattle.rules.specs.Laws.Ranges.{four_room, pair_room, dealt_room, dealt_rooms}
 use Rattle.demands.specs.Terms.Honest.{Deal}
 use Rattle.demands.specs.Terms.Histories.{message_to}
 use Rattle.demands.specs.MessageTo.{message_to_lem}
@@ -79,17 +79,17 @@ module _ (u : SetUp) (secret : ℕ) (coins : List ℕ) where
     pub sound : Sound u
     sound = own_sound u h.group_keeps_lem h.numbers_keep_lem
 
-    pub matrix-room : MatrixFits u.k (dealt_matrix u secret coins)
-    matrix-room = dealt-room u h.group_keeps_lem (size u sound).high _ _
+    pub matrix_room : MatrixFits u.k (dealt_matrix u secret coins)
+    matrix_room = dealt_room u h.group_keeps_lem (size u sound).high _ _
 
-    point-room : (from to : ℕ) → FourFits (dealt_point u secret coins from to)
-    point-room from to =
-        four_room u h.group_keeps_lem (size u sound).high _ (echo-below (order u) (order_some u sound) u.k (dealt_to u secret coins from) to)
+    point_room : (from to : ℕ) → FourFits (dealt_point u secret coins from to)
+    point_room from to =
+        four_room u h.group_keeps_lem (size u sound).high _ (echo_below (order u) (order_some u sound) u.k (dealt_to u secret coins from) to)
 
     kind_fits : (kind : Kind) (from to : ℕ) → Fits u (dealt_message kind from to)
-    kind_fits a_send from to = (matrix-room, dealt-rooms u h.group_keeps_lem (size u sound).high _ _ to)
-    kind_fits (a_point ByEcho) from to = (matrix-room, point-room from to)
-    kind_fits (a_point ByReady) from to = (matrix-room, point-room from to)
+    kind_fits a_send from to = (matrix_room, dealt_rooms u h.group_keeps_lem (size u sound).high _ _ to)
+    kind_fits (a_point ByEcho) from to = (matrix_room, point_room from to)
+    kind_fits (a_point ByReady) from to = (matrix_room, point_room from to)
     kind_fits a_share from to =
         let q = order_some u sound in
         let P = dealt_to u secret coins from in

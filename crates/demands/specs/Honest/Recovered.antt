@@ -23,7 +23,7 @@ use Rattle.demands.specs.Terms.Honest.{Deal}
 use Rattle.demands.specs.Terms.Histories.{Call, deals, gets, commanded, doing, after, own}
 use Rattle.demands.specs.Histories.{past_self}
 use Rattle.demands.specs.Terms.Dealing.{dealt_share}
-use Rattle.demands.specs.Sharing.{shares-give}
+use Rattle.demands.specs.Sharing.{shares_give}
 use Rattle.demands.specs.Terms.Lives.{share_now, share_said}
 use Rattle.demands.specs.Lives.{shares_say, recovered_from_lem}
 use Rattle.demands.specs.Lives.Born.{numbers_keep_lem}
@@ -77,5 +77,5 @@ module _ (u : SetUp) (secret : ℕ) (coins : List ℕ) (h : Deal u secret coins)
   recovered-dealt cs dealt p e =
       let up = is-taken u secret coins h i box-i in
       subst Secret (sym (recovered_from_lem me up cs p e))
-      (shares-give me (numbers_keep_lem me up) secret coins (coins_own u secret coins h i box-i) (share_points (after me cs).shares)
+      (shares_give me (numbers_keep_lem me up) secret coins (coins_own u secret coins h i box-i) (share_points (after me cs).shares)
       (recovered_differ me up (λ m v. v ≡ dealt_share u secret coins m) p cs e (share-dealt cs dealt)))

@@ -35,7 +35,7 @@ use Rattle.demands.specs.Lives.{completed_kept}
 use Rattle.demands.specs.Lives.Born.{good, own-setup}
 use Rattle.demands.specs.Lives.Origins.{Spoken, spoken, wrote_some}
 use Rattle.demands.specs.Honest.Messages.{SentDealt, a_send, a_point, a_share}
-use Rattle.demands.specs.Honest.Holdings.{CallDealt, LifeDealt, life_before, is-taken, matrix-dealt, used-then, ready-dealt, pair-dealt}
+use Rattle.demands.specs.Honest.Holdings.{CallDealt, LifeDealt, life_before, is-taken, matrix-dealt, used_then, ready_dealt, pair-dealt}
 
 module _ (u : SetUp) (secret : ℕ) (coins : List ℕ) (h : Deal u secret coins) (i : ℕ) (box-i : is_box u i ≡ true) where
   abbrev me : SetUp
@@ -56,13 +56,13 @@ module _ (u : SetUp) (secret : ℕ) (coins : List ℕ) (h : Deal u secret coins)
     )
 
     -- a recovery share is the completed slot's pair
-    share-sent : (d : Completion) → x.progress.completion ≡ d → run ≡ share_bytes me (completed_share x d) → SentDealt u secret coins i run
-    share-sent NotYet q e = absurd (some e)
-    share-sent (With s) q e = pair-sent (slot_at x s).pair.kept refl e
+    share_sent : (d : Completion) → x.progress.completion ≡ d → run ≡ share_bytes me (completed_share x d) → SentDealt u secret coins i run
+    share_sent NotYet q e = absurd (some e)
+    share_sent (With s) q e = pair_sent (slot_at x s).pair.kept refl e
       where
-        pair-sent : (v : Kept) → (slot_at x s).pair.kept ≡ v → run ≡ share_bytes me v → SentDealt u secret coins i run
-        pair-sent Absent w e = absurd (some e)
-        pair-sent (There p) w e =
+        pair_sent : (v : Kept) → (slot_at x s).pair.kept ≡ v → run ≡ share_bytes me v → SentDealt u secret coins i run
+        pair_sent Absent w e = absurd (some e)
+        pair_sent (There p) w e =
             let is = pair-dealt u secret coins h i box-i cs (life_before u secret coins i c cs dealt) s
             (completed_kept me (is-taken u secret coins h i box-i) cs s q).0 (ap is_there w) p w in
             (a_share, e ∙ ap (λ (v : Pair). to_each me (λ j. recovery v)) is ∙ own_each u i _, λ z. absurd (omega arith))
@@ -88,10 +88,10 @@ module _ (u : SetUp) (secret : ℕ) (coins : List ℕ) (h : Deal u secret coins)
           λ z. absurd (omega arith),
         )
     sends Ready (s, l, there, is, sender, lent, bytes, e, has) =
-        let C = matrix-dealt u secret coins h i box-i (c ∷ cs) dealt s l (used-then u secret coins h i box-i (c ∷ cs) dealt s l there) in
-        let f = ready-dealt u secret coins h i box-i (c ∷ cs) dealt s l there in
+        let C = matrix-dealt u secret coins h i box-i (c ∷ cs) dealt s l (used_then u secret coins h i box-i (c ∷ cs) dealt s l there) in
+        let f = ready_dealt u secret coins h i box-i (c ∷ cs) dealt s l there in
         (a_point ByReady, is ∙ ap (to_each me) (λ a j. ready (C a) (f j a)) ∙ own_each u i _, λ z. absurd (omega arith))
-    sends Recovery (is, done, lent, e) = share-sent x.progress.completion refl is
+    sends Recovery (is, done, lent, e) = share_sent x.progress.completion refl is
 
   -- ---- all that it has sent
 

@@ -28,7 +28,7 @@ use Rattle.demands.specs.Own.{each_same, ready_bytes}
 
 -- ---- it does
 
-module _ (u : SetUp) (set-up : (set_up u).answer.no ≡ 0) (cs : List Call) (c : Call) where
+module _ (u : SetUp) (set_up_lem : (set_up u).answer.no ≡ 0) (cs : List Call) (c : Call) where
   abbrev x : Record
   x = after u cs
 
@@ -40,12 +40,12 @@ module _ (u : SetUp) (set-up : (set_up u).answer.no ≡ 0) (cs : List Call) (c :
 
   -- a ready is that of the slot of its matrix
   module _ (C : List (List Element)) (s : ℕ) (has : Has y C s) where
-    own-ready : to_each u (ready_of u (slot_at y s)) ≡ to_each u (λ j. ready C (ready_four (order u) (lowest_for u y C) j))
-    own-ready =
-        let own = own-setup u set-up (c ∷ cs) in
+    own_ready : to_each u (ready_of u (slot_at y s)) ≡ to_each u (λ j. ready C (ready_four (order u) (lowest_for u y C) j))
+    own_ready =
+        let own = own-setup u set_up_lem (c ∷ cs) in
         each_same u _ _ (λ j. ready_bytes u (matrix_of (slot_at y s)) C _ (rw own at has.agrees))
         ∙ ap (λ (r : ℕ). to_each u (λ j. ready C (ready_four (order u) (take u.k (points (slot_at y r).places)) j)))
-        (sym (own_is y (good u set-up (c ∷ cs)) C s has))
+        (sym (own_is y (good u set_up_lem (c ∷ cs)) C s has))
 
   done_with : (v : Completion) → is_done v ≡ true → (s : ℕ) × (v ≡ With s)
   done_with NotYet e = absurd (true≢false (sym e))
@@ -56,10 +56,10 @@ module _ (u : SetUp) (set-up : (set_up u).answer.no ≡ 0) (cs : List Call) (c :
   by_kind Nothing t = t
   by_kind Send t = (t.0, t.1, t.5, t.6, t.4)
   by_kind Echo t = (t.4, t.5, t.0, t.6, t.7, t.3)
-  by_kind Ready t = (t.4, t.5, t.6, t.7, t.3 ∙ own-ready (matrix_in u t.6) t.0 t.8)
+  by_kind Ready t = (t.4, t.5, t.6, t.7, t.3 ∙ own_ready (matrix_in u t.6) t.0 t.8)
   by_kind Recovery t =
       let done = done_with x.progress.completion t.1 in
-      let kept = there_some _ (done-kept u set-up done.0 cs done.1).1 in (
+      let kept = there_some _ (done-kept u set_up_lem done.0 cs done.1).1 in (
         done.0,
         t.2,
         kept.0,
@@ -72,4 +72,4 @@ module _ (u : SetUp) (set-up : (set_up u).answer.no ≡ 0) (cs : List Call) (c :
   pub every_byte : Sends u cs c d.outcome.answer.sent (wrote d)
   every_byte =
       by_kind d.outcome.answer.sent
-      (subst (λ (v : SetUp). Spoken v x c d.outcome.answer.sent (wrote d)) (own-setup u set-up cs) (spoken x (good u set-up cs) c))
+      (subst (λ (v : SetUp). Spoken v x c d.outcome.answer.sent (wrote d)) (own-setup u set_up_lem cs) (spoken x (good u set_up_lem cs) c))

@@ -79,22 +79,22 @@ writes n st after buffer what bytes e same_sent same_bytes =
     rw (answered_accepted n st after buffer e)
     (record { no = refl; sent = same_sent; wrote = take-written st.bytes buffer ∙ same_bytes })
 
-module _ (u : SetUp) (set-up : (set_up u).answer.no ≡ 0) (cs : List Call) (lent : ℕ) (long : 2048 ≤ lent) where
+module _ (u : SetUp) (set_up_lem : (set_up u).answer.no ≡ 0) (cs : List Call) (lent : ℕ) (long : 2048 ≤ lent) where
   abbrev x : Record
   x = after u cs
 
   all_sound : sound x ≡ true
-  all_sound = facts_sound x (good u set-up cs).facts
+  all_sound = facts_sound x (good u set_up_lem cs).facts
 
   own : x.setup ≡ u
-  own = own-setup u set-up cs
+  own = own-setup u set_up_lem cs
 
   pub first-deal : u.i ≡ u.d → how_many (λ (a : Answer). is_send a.sent) (answers u cs) ≡ 0
       → (secret : ℕ) (coins : List ℕ) → coins_keep u secret coins ≡ true
       → Writes (doing x (deals secret coins lent)) Send (sends_of u secret coins)
   unfolding doing deal
   first-deal dealer undealt secret coins keep =
-      let n = deal_taken x all_sound lent long secret coins (rw own dealer) (dealt_counts u set-up cs ∙ ap (ltb 0) undealt) (rw own keep) in
+      let n = deal_taken x all_sound lent long secret coins (rw own dealer) (dealt_counts u set_up_lem cs ∙ ap (ltb 0) undealt) (rw own keep) in
       let sends = deal_sends x secret coins in
       writes _ (deal_step x secret coins) x (replicate lent 0) Send _ n sends.0 (sends.1 ∙ ap (λ (v : SetUp). sends_of v secret coins) own)
 
@@ -103,7 +103,7 @@ module _ (u : SetUp) (set-up : (set_up u).answer.no ≡ 0) (cs : List Call) (len
       → Writes (doing x (commanded lent)) Recovery (to_each u (λ j. recovery p))
   unfolding doing recover recover_step
   first-command s p done kept uncommanded =
-      let n = command_taken x all_sound lent long (ap is_done done) (commanded_counts u set-up cs ∙ ap (ltb 0) uncommanded) in
+      let n = command_taken x all_sound lent long (ap is_done done) (commanded_counts u set_up_lem cs ∙ ap (ltb 0) uncommanded) in
       writes _ (recover_step x) x (replicate lent 0) Recovery _ n refl
       (ap (λ (c : Completion). share_bytes x.setup (completed_share x c)) done
       ∙ ap (share_bytes x.setup) kept

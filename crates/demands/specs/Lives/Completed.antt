@@ -35,20 +35,20 @@ use Rattle.demands.specs.Lives.Once.{done_stays}
 
 -- ---- completion is forced
 
-zero_r : count_r zero_slot ≡ 0
+zero-r : count_r zero_slot ≡ 0
 unfolding count_r count_below zero_slot
-zero_r = refl
+zero-r = refl
 
 -- an echo leaves r as it is
 echo_leaves_r : (w : Slot) (m : ℕ) (f : Four) → count_r (taken ByEcho w m f) ≡ count_r w
 unfolding count_r
 echo_leaves_r w m f = refl
 
-module _ (u : SetUp) (set-up : (set_up u).answer.no ≡ 0) where
+module _ (u : SetUp) (set_up_lem : (set_up u).answer.no ≡ 0) where
   -- at k + t completion is due and no ready, since t is at least 1
   due_then : (w : Slot) → count_r w ≡ u.k + u.t → (ready_due u ByReady w ≡ false) × (completion_due u ByReady w ≡ true)
   due_then w e =
-      let some = (size u (numbers_keep_lem u set-up)).faults in
+      let some = (size u (numbers_keep_lem u set_up_lem)).faults in
       (ap (λ b. b and ltb (count_e w) (echo_quorum u)) (ne_eqb (count_r w) u.k (λ q. omega arith)), eq-eqb _ _ e)
 
   abbrev IsComplete : List Call → Type 0
@@ -56,26 +56,26 @@ module _ (u : SetUp) (set-up : (set_up u).answer.no ≡ 0) where
 
   complete_on : (c : Call) (cs : List Call) → IsComplete cs → IsComplete (c ∷ cs)
   unfolding after
-  complete_on c cs = done_stays _ _ (turn_at u set-up cs c).turned.still
+  complete_on c cs = done_stays _ _ (turn_at u set_up_lem cs c).turned.still
 
   module _ (D : List (List Element)) where
     abbrev r : List Call → ℕ
     r cs = count_r (slot_of (after u cs) D)
 
     -- r after a message for the matrix
-    r-took : (c : Call) (cs : List Call) (b : Side) (m : ℕ) (f : Four) (sends : Bool) → Touched (after u cs) c D b m f sends
+    r_took : (c : Call) (cs : List Call) (b : Side) (m : ℕ) (f : Four) (sends : Bool) → Touched (after u cs) c D b m f sends
         → r (c ∷ cs) ≡ count_r (taken b (slot_of (after u cs) D) m f)
     unfolding after
-    r-took c cs b m f sends t =
+    r_took c cs b m f sends t =
         count_is ByReady _ ∙ ap (λ (ms : Marks). count_below 10 (marked ms)) (t.slot.marks ByReady) ∙ sym (count_is ByReady _)
 
     pub forced : (cs : List Call) → u.k + u.t ≤ r cs → IsComplete cs
     unfolding after
     forced [] many =
-        let low = (size u (numbers_keep_lem u set-up)).low in
-        let none = ap count_r (slot_born u set-up D) ∙ zero_r in
+        let low = (size u (numbers_keep_lem u set_up_lem)).low in
+        let none = ap count_r (slot_born u set_up_lem D) ∙ zero-r in
         absurd (omega arith)
-    forced (c ∷ cs) many = go (view (after u cs) (good u set-up cs) c D) (forced cs) (dec_lt (r cs) (u.k + u.t))
+    forced (c ∷ cs) many = go (view (after u cs) (good u set_up_lem cs) c D) (forced cs) (dec_lt (r cs) (u.k + u.t))
       where
         x : Record
         x = after u cs
@@ -84,26 +84,26 @@ module _ (u : SetUp) (set-up : (set_up u).answer.no ≡ 0) where
         go v ih (no n) = complete_on c cs (ih (omega arith))
         go (aside t) ih (yes l) = let same : r (c ∷ cs) ≡ r cs = ap count_r t.slot in absurd (omega arith)
         go (touched ByEcho m f sends t) ih (yes l) =
-            let same = r-took c cs ByEcho m f sends t ∙ echo_leaves_r (slot_of x D) m f in absurd (omega arith)
+            let same = r_took c cs ByEcho m f sends t ∙ echo_leaves_r (slot_of x D) m f in absurd (omega arith)
         go (touched ByReady m f sends t) ih (yes l) =
-            let now = r-took c cs ByReady m f sends t in
-            let up = count_up ByReady (slot_of x D) (slot_shape x (good u set-up cs) D) m t.low f t.new in
+            let now = r_took c cs ByReady m f sends t in
+            let up = count_up ByReady (slot_of x D) (slot_shape x (good u set_up_lem cs) D) m t.low f t.new in
             let due = due_then (taken ByReady (slot_of x D) m f) (omega arith) in
-            let own = own-setup u set-up cs in
+            let own = own-setup u set_up_lem cs in
             t.completes (t.slot.test ∙ (rw own due.0)) (rw own due.1)
 
   -- ---- its share is the pair kept for its matrix
 
   -- the slot is in use
   done_used : (s : ℕ) (cs : List Call) → (after u cs).progress.completion ≡ With s → (s < 20) × ((slot_at (after u cs) s).used ≡ true)
-  done_used s cs e = let done = (good u set-up cs).facts.progress.completion s e in (done.within, done.used)
+  done_used s cs e = let done = (good u set_up_lem cs).facts.progress.completion s e in (done.within, done.used)
 
   -- and has a pair
   pub done-kept : (s : ℕ) (cs : List Call) → (after u cs).progress.completion ≡ With s
       → (s < 20) × (is_there (slot_at (after u cs) s).pair.kept ≡ true)
   done-kept s cs e =
       let x = after u cs in
-      let facts = (good u set-up cs).facts in
+      let facts = (good u set_up_lem cs).facts in
       let done = facts.progress.completion s e in
       let many = done.readies in
       let enough = le-leb x.setup.k (count_r (slot_at x s)) (omega arith) in
@@ -114,7 +114,7 @@ module _ (u : SetUp) (set-up : (set_up u).answer.no ≡ 0) where
   share-kept s cs e =
       let h = done_used s cs e in
       kept_of (after u cs) (matrix_of (slot_at (after u cs) s))
-      ∙ ap (λ (w : Slot). w.pair.kept) (slot-used (after u cs) (good u set-up cs) s h.0 h.1)
+      ∙ ap (λ (w : Slot). w.pair.kept) (slot-used (after u cs) (good u set_up_lem cs) s h.0 h.1)
 
   -- ---- it stays
 
@@ -122,13 +122,13 @@ module _ (u : SetUp) (set-up : (set_up u).answer.no ≡ 0) where
     pub completion-on : (later : List Call) → (after u (later ++ cs)).progress.completion ≡ With s
     unfolding after
     completion-on [] = done
-    completion-on (c ∷ later) = (turn_at u set-up (later ++ cs) c).turned.still s (completion-on later)
+    completion-on (c ∷ later) = (turn_at u set_up_lem (later ++ cs) c).turned.still s (completion-on later)
 
     pub matrix-on : (later : List Call) → matrix_of (slot_at (after u (later ++ cs)) s) ≡ matrix_of (slot_at (after u cs) s)
     unfolding after
     matrix-on [] = refl
     matrix-on (c ∷ later) =
-        ((turn_at u set-up (later ++ cs) c).turned.stays s (done_used s (later ++ cs) (completion-on later)).1).1 ∙ matrix-on later
+        ((turn_at u set_up_lem (later ++ cs) c).turned.stays s (done_used s (later ++ cs) (completion-on later)).1).1 ∙ matrix-on later
 
     pub share-on : (later : List Call) → (slot_at (after u (later ++ cs)) s).pair.kept ≡ (slot_at (after u cs) s).pair.kept
     share-on later =
@@ -138,5 +138,5 @@ module _ (u : SetUp) (set-up : (set_up u).answer.no ≡ 0) where
         sym (share-kept s (later ++ cs) (completion-on later))
         ∙ ap (kept_for (after u (later ++ cs))) (matrix-on later)
         ∙ kept_of (after u (later ++ cs)) M
-        ∙ kept_on u set-up M cs kept.0 later then
+        ∙ kept_on u set_up_lem M cs kept.0 later then
         ∙ sym kept.1

@@ -40,14 +40,14 @@ pub first_cases : (p : Point) (g f : Four) → first_point p g ≡ Held f → (p
 first_cases Silent g f e = inr (cc)
 first_cases (Held h) g f e = inl e
 
-module _ (u : SetUp) (set-up : (set_up u).answer.no ≡ 0) (D : List (List Element)) where
+module _ (u : SetUp) (set_up_lem : (set_up u).answer.no ≡ 0) (D : List (List Element)) where
   -- ---- who is marked
 
   pub marks_are : (a : Side) (i : ℕ) → i < 10 → (cs : List Call)
       → marked (marks_of a (slot_of (after u cs) D)) i ≡ checked u cs (ear a + 1) (i + 1) D
   unfolding after checked
-  marks_are a i l [] = ap (λ (w : Slot). marked (marks_of a w) i) (slot_born u set-up D) ∙ zero_unmarked a i l
-  marks_are a i l (c ∷ cs) = go (view (after u cs) (good u set-up cs) c D) (marks_are a i l cs)
+  marks_are a i l [] = ap (λ (w : Slot). marked (marks_of a w) i) (slot_born u set_up_lem D) ∙ zero_unmarked a i l
+  marks_are a i l (c ∷ cs) = go (view (after u cs) (good u set_up_lem cs) c D) (marks_are a i l cs)
     where
       go : View (after u cs) c D → marked (marks_of a (slot_of (after u cs) D)) i ≡ checked u cs (ear a + 1) (i + 1) D
           → marked (marks_of a (slot_of (next (after u cs) c) D)) i
@@ -55,7 +55,7 @@ module _ (u : SetUp) (set-up : (set_up u).answer.no ≡ 0) (D : List (List Eleme
       go (aside t) ih = rw (t.slot, t.unchecked a (i + 1)) ih
       go (touched b m f sends t) ih =
           ap (λ (ms : Marks). marked ms i) (t.slot.marks a)
-          ∙ taken_mark (slot_of (after u cs) D) (slot_shape (after u cs) (good u set-up cs) D) m i t.low a b f
+          ∙ taken_mark (slot_of (after u cs) D) (slot_shape (after u cs) (good u set_up_lem cs) D) m i t.low a b f
           ∙ ap₂ ◌or◌ (sym (t.checked (ear a + 1) (i + 1))) ih
 
   pub e-is : (cs : List Call) → e_of (after u cs) D ≡ count_below 10 (λ m. checked u cs 2 (m + 1) D)
@@ -70,8 +70,8 @@ module _ (u : SetUp) (set-up : (set_up u).answer.no ≡ 0) (D : List (List Eleme
 
   pub points-are : (i : ℕ) → i < 10 → (cs : List Call) → (place_at (slot_of (after u cs) D) i).point ≡ said u cs (i + 1) D
   unfolding after said
-  points-are i l [] = ap (λ (w : Slot). (place_at w i).point) (slot_born u set-up D) ∙ ap (λ (p : Place). p.point) (zero-silent i l)
-  points-are i l (c ∷ cs) = go (view (after u cs) (good u set-up cs) c D) (points-are i l cs)
+  points-are i l [] = ap (λ (w : Slot). (place_at w i).point) (slot_born u set_up_lem D) ∙ ap (λ (p : Place). p.point) (zero-silent i l)
+  points-are i l (c ∷ cs) = go (view (after u cs) (good u set_up_lem cs) c D) (points-are i l cs)
     where
       go : View (after u cs) c D → (place_at (slot_of (after u cs) D) i).point ≡ said u cs (i + 1) D
           → (place_at (slot_of (next (after u cs) c) D) i).point
@@ -79,7 +79,7 @@ module _ (u : SetUp) (set-up : (set_up u).answer.no ≡ 0) (D : List (List Eleme
       go (aside t) ih = rw (t.slot, t.unchecked ByEcho (i + 1), t.unchecked ByReady (i + 1)) ih
       go (touched b m f sends t) ih =
           ap (λ (ps : List Place). (get_or ps i silent).point) t.slot.places
-          ∙ taken_point (slot_of (after u cs) D) (slot_shape (after u cs) (good u set-up cs) D) m i t.low b f
+          ∙ taken_point (slot_of (after u cs) D) (slot_shape (after u cs) (good u set_up_lem cs) D) m i t.low b f
           ∙ ap₂ (λ (p : Point) (q : Bool). pick q (first_point p f) p) ih (sym (t.takes (i + 1)))
           ∙ ap (λ (h : Four). pick (takes_now (after u cs) c (i + 1) D) (first_point (said u cs (i + 1) D) h) (said u cs (i + 1) D))
           (sym t.four)
@@ -88,7 +88,7 @@ module _ (u : SetUp) (set-up : (set_up u).answer.no ≡ 0) (D : List (List Eleme
   pub said-passes : (m : ℕ) (f : Four) (cs : List Call) → said u cs m D ≡ Held f → point_check (group u) u.k D u.i m f ≡ true
   unfolding said
   said-passes m f [] e = let z : ◌≡◌ {A = ℕ} 0 1 = cc in absurd (omega arith)
-  said-passes m f (c ∷ cs) e = go (view (after u cs) (good u set-up cs) c D) (said-passes m f cs) e
+  said-passes m f (c ∷ cs) e = go (view (after u cs) (good u set_up_lem cs) c D) (said-passes m f cs) e
     where
       now : ℕ → Four → Type 0
       now i h = point_check (group u) u.k D u.i i h ≡ true
@@ -100,7 +100,7 @@ module _ (u : SetUp) (set-up : (set_up u).answer.no ≡ 0) (D : List (List Eleme
           ⊎_elim
           (λ q.
           ⊎_elim ih
-          (λ r. subst₂ now (eqb-true (i + 1) m q) r (rw (own-setup u set-up cs) at t.check))
+          (λ r. subst₂ now (eqb-true (i + 1) m q) r (rw (own-setup u set_up_lem cs) at t.check))
           (first_cases (said u cs m D) h f
           (ap (first_point (said u cs m D)) (sym t.four)
           ∙ sym (pick_true _ (first_point (said u cs m D) (four_of (after u cs) c)) (said u cs m D) (t.takes m ∙ q))

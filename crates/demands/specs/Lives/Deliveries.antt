@@ -84,80 +84,80 @@ module _ (x : Record) (g : Good x) (sender : ℕ) (bytes : List ℕ) (lent : ℕ
 
   -- accepted
   module _ (e : number ≡ 0) where
-    out-accepted : (doing x it).outcome ≡ accepted (message_step x (sender - 1) said_in)
+    out_accepted : (doing x it).outcome ≡ accepted (message_step x (sender - 1) said_in)
     unfolding doing deliver
-    out-accepted = ap (λ (o : Done). o.outcome) (answered_accepted number _ _ (replicate lent 0) e)
+    out_accepted = ap (λ (o : Done). o.outcome) (answered_accepted number _ _ (replicate lent 0) e)
 
     no_zero : eqb (doing x it).outcome.answer.no 0 ≡ true
     unfolding accepted
-    no_zero = ap (λ (o : Outcome). eqb o.answer.no 0) out-accepted
+    no_zero = ap (λ (o : Outcome). eqb o.answer.no 0) out_accepted
 
-    pub has-passed : Passed x sender bytes
-    has-passed = rows_passed x sender bytes (length {A = ℕ} (replicate lent 0)) e
+    pub has_passed : Passed x sender bytes
+    has_passed = rows_passed x sender bytes (length {A = ℕ} (replicate lent 0)) e
 
     from_one : sender ≡ sender - 1 + 1
-    from_one = let b = is_box_lem x.setup sender has-passed.hearing.box in omega arith
+    from_one = let b = is_box_lem x.setup sender has_passed.hearing.box in omega arith
 
-    below-ten : sender - 1 < 10
-    below-ten = let b = has-passed.hearing.within in let n = (needed x g.facts).boxes in omega arith
+    below_ten : sender - 1 < 10
+    below_ten = let b = has_passed.hearing.within in let n = (needed x g.facts).boxes in omega arith
 
     -- what the call checks now, by its tag
-    checks-now : (t : ℕ) → tag_in bytes ≡ t → (tag i : ℕ) (D : List (List Element))
+    checks_now_lem : (t : ℕ) → tag_in bytes ≡ t → (tag i : ℕ) (D : List (List Element))
         → checks_now x it tag i D ≡ eqb (sender - 1 + 1) i and eqb t tag and same_matrix x.setup.k (matrix_in x.setup bytes) D
     unfolding checks_now
-    checks-now t h tag i D =
+    checks_now_lem t h tag i D =
         rw (no_zero, h) (ap (λ (n : ℕ). eqb n i and eqb t tag and same_matrix x.setup.k (matrix_in x.setup bytes) D) from_one)
 
-    shares-now : (t : ℕ) → tag_in bytes ≡ t → (i : ℕ) → share_now x it i ≡ eqb (sender - 1 + 1) i and eqb t 4
+    shares_now : (t : ℕ) → tag_in bytes ≡ t → (i : ℕ) → share_now x it i ≡ eqb (sender - 1 + 1) i and eqb t 4
     unfolding share_now
-    shares-now t h i = rw (no_zero, h) (ap (λ (n : ℕ). eqb n i and eqb t 4) from_one)
+    shares_now t h i = rw (no_zero, h) (ap (λ (n : ℕ). eqb n i and eqb t 4) from_one)
 
     -- a tag that is no side's, and one that is no recovery share's
-    unchecked-now : (t : ℕ) → tag_in bytes ≡ t → eqb t 2 ≡ false → eqb t 3 ≡ false → (b : Side) (i : ℕ) (D : List (List Element))
+    unchecked_now : (t : ℕ) → tag_in bytes ≡ t → eqb t 2 ≡ false → eqb t 3 ≡ false → (b : Side) (i : ℕ) (D : List (List Element))
         → checks_now x it (ear b + 1) i D ≡ false
-    unchecked-now t h d d' ByEcho i D = checks-now t h 2 i D ∙ (rw d (and_false (eqb (sender - 1 + 1) i)))
-    unchecked-now t h d d' ByReady i D = checks-now t h 3 i D ∙ (rw d' (and_false (eqb (sender - 1 + 1) i)))
+    unchecked_now t h d d' ByEcho i D = checks_now_lem t h 2 i D ∙ (rw d (and_false (eqb (sender - 1 + 1) i)))
+    unchecked_now t h d d' ByReady i D = checks_now_lem t h 3 i D ∙ (rw d' (and_false (eqb (sender - 1 + 1) i)))
 
-    unshared-now : (t : ℕ) → tag_in bytes ≡ t → eqb t 4 ≡ false → (i : ℕ) → share_now x it i ≡ false
-    unshared-now t h d i = shares-now t h i ∙ (rw d (and_false (eqb (sender - 1 + 1) i)))
+    unshared_now : (t : ℕ) → tag_in bytes ≡ t → eqb t 4 ≡ false → (i : ℕ) → share_now x it i ≡ false
+    unshared_now t h d i = shares_now t h i ∙ (rw d (and_false (eqb (sender - 1 + 1) i)))
 
-    pub out-message : (msg : Message) → said_in ≡ msg → (doing x it).outcome ≡ accepted (message_step x (sender - 1) msg)
-    out-message msg h = out-accepted ∙ ap (λ (m : Message). accepted (message_step x (sender - 1) m)) h
+    pub out_message : (msg : Message) → said_in ≡ msg → (doing x it).outcome ≡ accepted (message_step x (sender - 1) msg)
+    out_message msg h = out_accepted ∙ ap (λ (m : Message). accepted (message_step x (sender - 1) m)) h
 
     -- a send
-    send-tells : tag_in bytes ≡ 1 → (C : List (List Element)) (P : Polynomials) → Tells x (accepted (send_step (heard x 1 (sender - 1)) C P))
+    send_tells : tag_in bytes ≡ 1 → (C : List (List Element)) (P : Polynomials) → Tells x (accepted (send_step (heard x 1 (sender - 1)) C P))
     unfolding accepted send_step heard
-    send-tells h C P =
+    send_tells h C P =
         record {
           untouched = untouched_heard x 1 (sender - 1);
           completed = refl;
           ready = refl;
           echoes = λ q.
-              rw (← has-passed.hearing.dealer h) (rw h at has-passed.hearing.unheard, hears_own x g.shape 1 (sender - 1) (omega arith) below-ten);
+              rw (← has_passed.hearing.dealer h) (rw h at has_passed.hearing.unheard, hears_own x g.shape 1 (sender - 1) (omega arith) below_ten);
           marks = marks_stay _ _ _ refl refl refl refl;
         }
 
-    turn-send : tag_in bytes ≡ 1 → Turn x it
-    turn-send h =
-        let t = subst (Tells x) (sym (out-message _ (is_send_lem x.setup bytes h))) (send-tells h _ _) in
+    turn_send : tag_in bytes ≡ 1 → Turn x it
+    turn_send h =
+        let t = subst (Tells x) (sym (out_message _ (is_send_lem x.setup bytes h))) (send_tells h _ _) in
         record {
           turned = quiet_turned x it t;
           good = good_after;
-          way = quiet_way x it t (unchecked-now 1 h refl refl) (unshared-now 1 h refl);
+          way = quiet_way x it t (unchecked_now 1 h refl refl) (unshared_now 1 h refl);
         }
 
     -- which is answered by an echo
-    send-echoes : tag_in bytes ≡ 1 → (doing x it).outcome.answer.sent ≡ Echo
+    send_echoes : tag_in bytes ≡ 1 → (doing x it).outcome.answer.sent ≡ Echo
     unfolding accepted send_step heard
-    send-echoes h = ap (λ (o : Outcome). o.answer.sent) (out-message _ (is_send_lem x.setup bytes h))
+    send_echoes h = ap (λ (o : Outcome). o.answer.sent) (out_message _ (is_send_lem x.setup bytes h))
 
     -- an echo or a ready
-    turn-takes : (b : Side) → tag_in bytes ≡ ear b + 1 → (C : List (List Element)) (f : Four)
+    turn_takes : (b : Side) → tag_in bytes ≡ ear b + 1 → (C : List (List Element)) (f : Four)
         → matrix_in x.setup bytes ≡ C → four_in x.setup bytes ≡ f
         → (doing x it).outcome ≡ accepted (step_of b x (sender - 1) C f) → Found x C (slot_for x C)
         → point_check (group_in x) x.setup.k C x.setup.i sender f ≡ true → Turn x it
     unfolding accepted
-    turn-takes b h C f ec ef out found check =
+    turn_takes b h C f ec ef out found check =
         let st = stepped b x (sender - 1) C f in
         let to : next x it ≡ (step_of b x (sender - 1) C f).after = ap (λ (o : Outcome). o.next) out in
         let gy : Good (step_of b x (sender - 1) C f).after = subst Good to good_after in
@@ -176,39 +176,39 @@ module _ (x : Record) (g : Good x) (sender : ℕ) (bytes : List ℕ) (lent : ℕ
           };
           good = good_after;
           way = takes b (sender - 1) C f (sends_now b x (sender - 1) C f) (record {
-            low = below-ten;
+            low = below_ten;
             new = new b h;
             took = subst (λ (r : Record). Took x r b (sender - 1) C f (sends_now b x (sender - 1) C f)) (sym to) tk;
             shares = ap (λ (r : Record). r.shares) to ∙ st.shares;
             recovered = ap (λ (r : Record). r.recovered) to ∙ st.recovered;
             ready = ap (λ (o : Outcome). is_ready o.answer.sent) out ∙ st.ready;
-            checked = λ tag i D. rw (← ec) (checks-now (ear b + 1) h tag i D);
-            unshared = unshared-now (ear b + 1) h (no-share b);
+            checked = λ tag i D. rw (← ec) (checks_now_lem (ear b + 1) h tag i D);
+            unshared = unshared_now (ear b + 1) h (no_share b);
             sender = from_one;
             four = ef;
-            passes = rw (← ec) (has-passed.passes (rw h (low-tag b)));
+            passes = rw (← ec) (has_passed.passes (rw h (low_tag b)));
             check = rw (← from_one) check;
           });
         }
       where
-        no-share : (a : Side) → eqb (ear a + 1) 4 ≡ false
-        no-share ByEcho = refl
-        no-share ByReady = refl
+        no_share : (a : Side) → eqb (ear a + 1) 4 ≡ false
+        no_share ByEcho = refl
+        no_share ByReady = refl
 
         new : (a : Side) → tag_in bytes ≡ ear a + 1 → hears x (ear a) (sender - 1) ≡ false
-        new ByEcho q = rw q at has-passed.hearing.unheard
-        new ByReady q = rw q at has-passed.hearing.unheard
+        new ByEcho q = rw q at has_passed.hearing.unheard
+        new ByReady q = rw q at has_passed.hearing.unheard
 
-        low-tag : (a : Side) → ear a + 1 ≤ 3
-        low-tag ByEcho = omega arith
-        low-tag ByReady = omega arith
+        low_tag : (a : Side) → ear a + 1 ≤ 3
+        low_tag ByEcho = omega arith
+        low_tag ByReady = omega arith
 
     -- a recovery share
-    turn-keeps : tag_in bytes ≡ 4 → (p : Pair) → pair_in bytes ≡ p
+    turn_keeps : tag_in bytes ≡ 4 → (p : Pair) → pair_in bytes ≡ p
         → (doing x it).outcome ≡ accepted (share_step (heard x 4 (sender - 1)) (sender - 1) p)
         → share_checks x x.progress.completion sender p ≡ true → Turn x it
     unfolding accepted
-    turn-keeps h p ep out check =
+    turn_keeps h p ep out check =
         let st = shared x (sender - 1) p in
         let to : next x it ≡ (share_step (heard x 4 (sender - 1)) (sender - 1) p).after = ap (λ (o : Outcome). o.next) out in
         let same : (next x it).progress.completion ≡ x.progress.completion
@@ -225,30 +225,30 @@ module _ (x : Record) (g : Good x) (sender : ℕ) (bytes : List ℕ) (lent : ℕ
           };
           good = good_after;
           way = keeps (sender - 1) p (record {
-            low = below-ten;
+            low = below_ten;
             slots = ap (λ (r : Record). r.slots) to ∙ st.slots;
             completion = same;
             shares = ap (λ (r : Record). r.shares) to ∙ st.shares;
             recovered = ap (λ (r : Record). r.recovered.kept) to ∙ st.recovered;
             ready = ap (λ (o : Outcome). is_ready o.answer.sent) out ∙ st.ready;
-            unchecked = unchecked-now 4 h refl refl;
-            shared = λ i. shares-now 4 h i ∙ and_true (eqb (sender - 1 + 1) i);
+            unchecked = unchecked_now 4 h refl refl;
+            shared = λ i. shares_now 4 h i ∙ and_true (eqb (sender - 1 + 1) i);
             pair = ep;
-            unrecovered = has-passed.hearing.unrecovered h;
+            unrecovered = has_passed.hearing.unrecovered h;
             check = rw (← from_one) check;
           });
         }
 
-    turn-accepted : Turn x it
-    turn-accepted =
-        by_tag u bytes has-passed.hearing.form turn-send
-        (λ h. turn-takes ByEcho h _ _ refl refl (out-message _ (is_echo_lem u bytes h))
-        (room x (sender - 1) _ all_sound has-passed.hearing.within ByEcho (rw h at has-passed.hearing.unheard))
-        (rw (is_echo_lem u bytes h) at has-passed.check))
-        (λ h. turn-takes ByReady h _ _ refl refl (out-message _ (is_ready_lem u bytes h))
-        (room x (sender - 1) _ all_sound has-passed.hearing.within ByReady (rw h at has-passed.hearing.unheard))
-        (rw (is_ready_lem u bytes h) at has-passed.check))
-        (λ h. turn-keeps h _ refl (out-message _ (is_recovery_lem u bytes h)) (rw (is_recovery_lem u bytes h) at has-passed.check))
+    turn_accepted : Turn x it
+    turn_accepted =
+        by_tag u bytes has_passed.hearing.form turn_send
+        (λ h. turn_takes ByEcho h _ _ refl refl (out_message _ (is_echo_lem u bytes h))
+        (room x (sender - 1) _ all_sound has_passed.hearing.within ByEcho (rw h at has_passed.hearing.unheard))
+        (rw (is_echo_lem u bytes h) at has_passed.check))
+        (λ h. turn_takes ByReady h _ _ refl refl (out_message _ (is_ready_lem u bytes h))
+        (room x (sender - 1) _ all_sound has_passed.hearing.within ByReady (rw h at has_passed.hearing.unheard))
+        (rw (is_ready_lem u bytes h) at has_passed.check))
+        (λ h. turn_keeps h _ refl (out_message _ (is_recovery_lem u bytes h)) (rw (is_recovery_lem u bytes h) at has_passed.check))
       where
         u : SetUp
         u = x.setup
@@ -260,7 +260,7 @@ module _ (x : Record) (g : Good x) (sender : ℕ) (bytes : List ℕ) (lent : ℕ
   turn_gets = go (ℕ_discrete number 0)
     where
       go : Dec (number ≡ 0) → Turn x it
-      go (yes e) = turn-accepted e
+      go (yes e) = turn_accepted e
       go (no d) = turn_refused d
 
 -- What any call makes of a good record.
@@ -273,4 +273,4 @@ turn x g (commanded lent) = turn_commanded x g lent
 pub has-echo : (x : Record) → Good x → (sender lent : ℕ) (bytes : List ℕ) → tag_in bytes ≡ 1
     → (doing x (gets sender bytes lent)).outcome.answer.no ≡ 0 → (doing x (gets sender bytes lent)).outcome.answer.sent ≡ Echo
 unfolding doing deliver answered
-has-echo x g sender lent bytes h e = send-echoes x g sender bytes lent (sym (outcome_number _ _ _) ∙ e) h
+has-echo x g sender lent bytes h e = send_echoes x g sender bytes lent (sym (outcome_number _ _ _) ∙ e) h

@@ -50,7 +50,7 @@ counted n false was is m e = let same : n ≡ 0 + n = omega arith in m.now ∙ e
 once_up : (now was is : Bool) → Once now was is → (now ≡ true → (was ≡ false) × (is ≡ true)) × (was ≡ true → is ≡ true)
 once_up now was is m = (λ e. (m.first e, m.now ∙ or_left now was e), λ e. m.now ∙ or_right now was e)
 
-module _ (u : SetUp) (set-up : (set_up u).answer.no ≡ 0) where
+module _ (u : SetUp) (set_up_lem : (set_up u).answer.no ≡ 0) where
   -- ---- how often it was set
 
   module _ (sends : Sent → Bool) (mark : Progress → Bool) (new : mark (new_record u).progress ≡ false)
@@ -59,18 +59,18 @@ module _ (u : SetUp) (set-up : (set_up u).answer.no ≡ 0) where
     sent cs = how_many (λ (a : Answer). sends a.sent) (answers u cs)
 
     begins : mark (after u []).progress ≡ false
-    begins = ap (λ (x : Record). mark x.progress) (born u set-up) ∙ new
+    begins = ap (λ (x : Record). mark x.progress) (born u set_up_lem) ∙ new
 
-    mark-counts : (cs : List Call) → mark (after u cs).progress ≡ ltb 0 (sent cs)
+    mark_counts : (cs : List Call) → mark (after u cs).progress ≡ ltb 0 (sent cs)
     unfolding after answers how_many
-    mark-counts [] = begins
-    mark-counts (c ∷ cs) = counted (sent cs) _ _ _ (once (after u cs) c (turn_at u set-up cs c)) (mark-counts cs)
+    mark_counts [] = begins
+    mark_counts (c ∷ cs) = counted (sent cs) _ _ _ (once (after u cs) c (turn_at u set_up_lem cs c)) (mark_counts cs)
 
     marks_once : (cs : List Call) → sent cs ≤ pick (mark (after u cs).progress) 1 0
     unfolding after answers how_many
     marks_once [] = omega arith
     marks_once (c ∷ cs) =
-        let up = once_up _ _ _ (once (after u cs) c (turn_at u set-up cs c)) in told_up _ _ _ _ up.0 up.1 (marks_once cs)
+        let up = once_up _ _ _ (once (after u cs) c (turn_at u set_up_lem cs c)) in told_up _ _ _ _ up.0 up.1 (marks_once cs)
 
   new_progress : ((new_record u).progress.dealt ≡ false) × ((new_record u).progress.commanded ≡ false)
   unfolding new_record
@@ -78,7 +78,7 @@ module _ (u : SetUp) (set-up : (set_up u).answer.no ≡ 0) where
 
   -- the dealer is marked once it has dealt, and deals once
   pub dealt_counts : (cs : List Call) → (after u cs).progress.dealt ≡ ltb 0 (how_many (λ (a : Answer). is_send a.sent) (answers u cs))
-  dealt_counts = mark-counts is_send (λ (v : Progress). v.dealt) new_progress.0 (λ x c t. t.turned.marks.dealt)
+  dealt_counts = mark_counts is_send (λ (v : Progress). v.dealt) new_progress.0 (λ x c t. t.turned.marks.dealt)
 
   pub deal-once : (cs : List Call) → how_many (λ (a : Answer). is_send a.sent) (answers u cs) ≤ 1
   deal-once cs = one_at_most _ (after u cs).progress.dealt (marks_once is_send (λ (v : Progress). v.dealt) new_progress.0 (λ x c t. t.turned.marks.dealt) cs)
@@ -86,7 +86,7 @@ module _ (u : SetUp) (set-up : (set_up u).answer.no ≡ 0) where
   -- a box is marked once it was commanded, and takes one command
   pub commanded_counts : (cs : List Call)
       → (after u cs).progress.commanded ≡ ltb 0 (how_many (λ (a : Answer). is_recovery a.sent) (answers u cs))
-  commanded_counts = mark-counts is_recovery (λ (v : Progress). v.commanded) new_progress.1 (λ x c t. t.turned.marks.commanded)
+  commanded_counts = mark_counts is_recovery (λ (v : Progress). v.commanded) new_progress.1 (λ x c t. t.turned.marks.commanded)
 
   pub command-once : (cs : List Call) → how_many (λ (a : Answer). is_recovery a.sent) (answers u cs) ≤ 1
   command-once cs =
@@ -97,7 +97,7 @@ module _ (u : SetUp) (set-up : (set_up u).answer.no ≡ 0) where
   -- without a mark after a call there was none before it
   pub unmarked_before : (c : Call) (cs : List Call) → (after u (c ∷ cs)).progress.commanded ≡ false → (after u cs).progress.commanded ≡ false
   unfolding after
-  unmarked_before c cs e = (or_false (is_recovery (doing (after u cs) c).outcome.answer.sent) _ (sym (turn_at u set-up cs c).turned.marks.commanded.now ∙ e)).1
+  unmarked_before c cs e = (or_false (is_recovery (doing (after u cs) c).outcome.answer.sent) _ (sym (turn_at u set_up_lem cs c).turned.marks.commanded.now ∙ e)).1
 
   -- ---- two deals that were accepted are one
 
@@ -105,24 +105,24 @@ module _ (u : SetUp) (set-up : (set_up u).answer.no ≡ 0) where
       (taken : (doing (after u before) (deals secret coins lent)).outcome.answer.no ≡ 0) where
     abbrev marks : OwnMarks (after u before).progress (next (after u before) (deals secret coins lent)).progress
         (doing (after u before) (deals secret coins lent)).outcome.answer.sent
-    marks = (turn_at u set-up before (deals secret coins lent)).turned.marks
+    marks = (turn_at u set_up_lem before (deals secret coins lent)).turned.marks
 
-    sends-it : is_send (doing (after u before) (deals secret coins lent)).outcome.answer.sent ≡ true
-    sends-it = deal_sent (after u before) secret coins lent taken
+    sends_it : is_send (doing (after u before) (deals secret coins lent)).outcome.answer.sent ≡ true
+    sends_it = deal_sent (after u before) secret coins lent taken
 
-    undealt-then : (after u before).progress.dealt ≡ false
-    undealt-then = marks.dealt.first sends-it
+    undealt_then : (after u before).progress.dealt ≡ false
+    undealt_then = marks.dealt.first sends_it
 
     -- ever after the box has dealt
-    dealt-since : (since : List Call) → (after u (since ++ deals secret coins lent ∷ before)).progress.dealt ≡ true
+    dealt_since : (since : List Call) → (after u (since ++ deals secret coins lent ∷ before)).progress.dealt ≡ true
     unfolding after
-    dealt-since [] = marks.dealt.now ∙ or_left _ _ sends-it
-    dealt-since (c ∷ since) =
+    dealt_since [] = marks.dealt.now ∙ or_left _ _ sends_it
+    dealt_since (c ∷ since) =
         let past = since ++ deals secret coins lent ∷ before in
-        (turn_at u set-up past c).turned.marks.dealt.now ∙ or_right (is_send (doing (after u past) c).outcome.answer.sent) _ (dealt-since since)
+        (turn_at u set_up_lem past c).turned.marks.dealt.now ∙ or_right (is_send (doing (after u past) c).outcome.answer.sent) _ (dealt_since since)
 
-    dealt-now : (now : List Call) → Past (deals secret coins lent ∷ before) now → (after u now).progress.dealt ≡ true
-    dealt-now now (since, e) = subst (λ (cs : List Call). (after u cs).progress.dealt ≡ true) (sym e) (dealt-since since)
+    dealt_now : (now : List Call) → Past (deals secret coins lent ∷ before) now → (after u now).progress.dealt ≡ true
+    dealt_now now (since, e) = subst (λ (cs : List Call). (after u cs).progress.dealt ≡ true) (sym e) (dealt_since since)
 
   pub one_deal : (secret : ℕ) (coins : List ℕ) (lent : ℕ) (before : List Call) (secret' : ℕ) (coins' : List ℕ) (lent' : ℕ) (before' cs : List Call)
       → (doing (after u before) (deals secret coins lent)).outcome.answer.no ≡ 0
@@ -134,11 +134,11 @@ module _ (u : SetUp) (set-up : (set_up u).answer.no ≡ 0) where
       (λ w.
       ⊎_elim
       (λ w'. (cc, cc))
-      (λ q'. absurd (true≢false (sym (dealt-now s' c' l' b' a' cs q') ∙ ap dealt (sym w.1) ∙ undealt-then s c l b a)))
+      (λ q'. absurd (true≢false (sym (dealt_now s' c' l' b' a' cs q') ∙ ap dealt (sym w.1) ∙ undealt_then s c l b a)))
       (past_cases _ call b' cs p'))
       (λ q.
       ⊎_elim
-      (λ w'. absurd (true≢false (sym (dealt-now s c l b a cs q) ∙ ap dealt (sym w'.1) ∙ undealt-then s' c' l' b' a')))
+      (λ w'. absurd (true≢false (sym (dealt_now s c l b a cs q) ∙ ap dealt (sym w'.1) ∙ undealt_then s' c' l' b' a')))
       (λ q'. one_deal s c l b s' c' l' b' cs a a' q q')
       (past_cases _ call b' cs p'))
       (past_cases _ call b cs p)

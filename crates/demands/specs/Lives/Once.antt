@@ -42,7 +42,7 @@ pub done_stays : (c c' : Completion) → Stays c c' → is_done c ≡ true → i
 done_stays NotYet c' h e = absurd (true≢false (sym e))
 done_stays (With s) c' h e = ap is_done (h s refl)
 
-module _ (u : SetUp) (set-up : (set_up u).answer.no ≡ 0) where
+module _ (u : SetUp) (set_up_lem : (set_up u).answer.no ≡ 0) where
   -- ---- echo
 
   -- an echo is sent when the dealer is newly heard for a send
@@ -50,11 +50,11 @@ module _ (u : SetUp) (set-up : (set_up u).answer.no ≡ 0) where
   unfolding after answers how_many
   echoes_heard [] = omega arith
   echoes_heard (c ∷ cs) =
-      let t = (turn_at u set-up cs c).turned in
+      let t = (turn_at u set_up_lem cs c).turned in
       told_up _ (is_echo (doing (after u cs) c).outcome.answer.sent)
       (hears (after u cs) 0 (u.d - 1)) (hears (next (after u cs) c) 0 (u.d - 1))
       (λ e. subst (λ (v : SetUp). (hears (after u cs) 0 (v.d - 1) ≡ false) × (hears (next (after u cs) c) 0 (v.d - 1) ≡ true))
-      (own-setup u set-up cs) (t.echoes e))
+      (own-setup u set_up_lem cs) (t.echoes e))
       (t.ears 0 (u.d - 1))
       (echoes_heard cs)
 
@@ -68,7 +68,7 @@ module _ (u : SetUp) (set-up : (set_up u).answer.no ≡ 0) where
   unfolding after answers how_many
   completions_done [] = omega arith
   completions_done (c ∷ cs) =
-      let t = (turn_at u set-up cs c).turned in
+      let t = (turn_at u set_up_lem cs c).turned in
       told_up _ (doing (after u cs) c).outcome.answer.completed
       (is_done (after u cs).progress.completion) (is_done (next (after u cs) c).progress.completion)
       (turns _ _ _ t.done)

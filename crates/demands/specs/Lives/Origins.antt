@@ -38,7 +38,7 @@ use Rattle.demands.specs.Lives.Stepped.{step_of, paired}
 use Rattle.demands.specs.Lives.Slots.{Has}
 use Rattle.demands.specs.Lives.Took.{took, slot_sent}
 use Rattle.demands.specs.Lives.Turns.{next}
-use Rattle.demands.specs.Lives.Deliveries.{turn, number, has-passed, out-message}
+use Rattle.demands.specs.Lives.Deliveries.{turn, number, has_passed, out_message}
 
 -- ---- what stands behind the bytes of a call
 
@@ -127,13 +127,13 @@ module _ (x : Record) where
       abbrev sends : Bool
       sends = ready_due x.setup b new
 
-      slot-now : sends ≡ true → slot_at (next x it) (slot_for x C) ≡ paired x new
+      slot_now : sends ≡ true → slot_at (next x it) (slot_for x C) ≡ paired x new
       unfolding accepted
-      slot-now e = ap (λ (o : Outcome). slot_at o.next (slot_for x C)) out ∙ slot_sent b x g (sender - 1) C f found e
+      slot_now e = ap (λ (o : Outcome). slot_at o.next (slot_for x C)) out ∙ slot_sent b x g (sender - 1) C f found e
 
-      now-has : Has (next x it) C (slot_for x C)
+      now_has : Has (next x it) C (slot_for x C)
       unfolding accepted
-      now-has =
+      now_has =
           let to : next x it ≡ (step_of b x (sender - 1) C f).after = ap (λ (o : Outcome). o.next) out in
           let tk = took b x g (sender - 1) C f found (subst Good to (turn x g it).good) in
           subst (λ (y : Record). Has y C (slot_for x C)) (sym to) (tk.has C (agree_self x.setup.k C))
@@ -142,7 +142,7 @@ module _ (x : Record) where
       sends_ready : sends ≡ true → Spoken x.setup x it Ready (to_each x.setup (ready_of x.setup new))
       unfolding keeping matrix_of
       sends_ready e =
-          let now = slot-now e in (
+          let now = slot_now e in (
             slot_for x C,
             found.within,
             ap (λ (w : Slot). is_there w.pair.kept) now,
@@ -151,19 +151,19 @@ module _ (x : Record) where
             lent,
             bytes,
             refl,
-            now-has,
+            now_has,
           )
 
-    step-tells : (b : Side) (f : Four) → (doing x it).outcome ≡ accepted (step_of b x (sender - 1) (matrix_in x.setup bytes) f)
+    step_tells : (b : Side) (f : Four) → (doing x it).outcome ≡ accepted (step_of b x (sender - 1) (matrix_in x.setup bytes) f)
         → Found x (matrix_in x.setup bytes) (slot_for x (matrix_in x.setup bytes)) → Tells (step_of b x (sender - 1) (matrix_in x.setup bytes) f)
     unfolding point_step point_at ready_sent completed heard slot_for own_slot free_slot
-    step-tells b f out found =
+    step_tells b f out found =
         pick-either Tells (sends b f out found) _ _ (sends_ready b f out found)
         (λ e. pick-either Tells (completion_due x.setup b (new b f out found)) _ _ (λ q. refl) (λ q. refl))
 
-    share-tells : (p : Pair) → Tells (share_step (heard x 4 (sender - 1)) (sender - 1) p)
+    share_tells : (p : Pair) → Tells (share_step (heard x 4 (sender - 1)) (sender - 1) p)
     unfolding share_step recovering heard
-    share-tells p =
+    share_tells p =
         pick-either Tells (eqb (shares_kept (sharing x (sender - 1) p)) x.setup.k) _ _ (λ e. refl) (λ e. refl)
 
     -- a message by its tag
@@ -172,20 +172,20 @@ module _ (x : Record) where
 
     module _ (e : number x g sender bytes lent ≡ 0) where
       abbrev came : Passed x sender bytes
-      came = has-passed x g sender bytes lent e
+      came = has_passed x g sender bytes lent e
 
-      message-tells : Tells (message_step x (sender - 1) says)
+      message_tells : Tells (message_step x (sender - 1) says)
       unfolding send_step heard
-      message-tells =
+      message_tells =
           by_tag u bytes came.hearing.form
           (λ h. of _ (is_send_lem u bytes h) (bytes, came.passes (omega arith), rw (is_send_lem u bytes h) at came.check, refl, sender, lent, refl, h))
           (λ h. of _ (is_echo_lem u bytes h)
-          (step-tells ByEcho _ (out-message x g sender bytes lent e _ (is_echo_lem u bytes h))
+          (step_tells ByEcho _ (out_message x g sender bytes lent e _ (is_echo_lem u bytes h))
           (room x (sender - 1) _ (facts_sound x g.facts) came.hearing.within ByEcho (rw h at came.hearing.unheard))))
           (λ h. of _ (is_ready_lem u bytes h)
-          (step-tells ByReady _ (out-message x g sender bytes lent e _ (is_ready_lem u bytes h))
+          (step_tells ByReady _ (out_message x g sender bytes lent e _ (is_ready_lem u bytes h))
           (room x (sender - 1) _ (facts_sound x g.facts) came.hearing.within ByReady (rw h at came.hearing.unheard))))
-          (λ h. of _ (is_recovery_lem u bytes h) (share-tells (pair_in bytes)))
+          (λ h. of _ (is_recovery_lem u bytes h) (share_tells (pair_in bytes)))
         where
           u : SetUp
           u = x.setup
@@ -193,17 +193,17 @@ module _ (x : Record) where
           of : (msg : Message) → says ≡ msg → Tells (message_step x (sender - 1) msg) → Tells (message_step x (sender - 1) says)
           of msg h = subst (λ (m : Message). Tells (message_step x (sender - 1) m)) (sym h)
 
-    gets-spoken : Spoken x.setup x it (doing x it).outcome.answer.sent (wrote (doing x it))
+    gets_spoken : Spoken x.setup x it (doing x it).outcome.answer.sent (wrote (doing x it))
     unfolding doing deliver
-    gets-spoken =
+    gets_spoken =
         answered_holds (Spoken x.setup x it) (number x g sender bytes lent)
         (message_step x (sender - 1) says) (refusal_heard (first_row (deliver_rows x sender bytes (length {A = ℕ} (replicate lent 0)))).marks x sender bytes)
-        (replicate lent 0) refl message-tells
+        (replicate lent 0) refl message_tells
 
 -- What any call on a good record has sent.
 pub spoken : (x : Record) → Good x → (c : Call) → Spoken x.setup x c (doing x c).outcome.answer.sent (wrote (doing x c))
 spoken x g (deals secret coins lent) = deals_spoken x secret coins lent
-spoken x g (gets sender bytes lent) = gets-spoken x g sender bytes lent
+spoken x g (gets sender bytes lent) = gets_spoken x g sender bytes lent
 spoken x g (commanded lent) = commanded_spoken x lent
 
 -- ---- a call that wrote

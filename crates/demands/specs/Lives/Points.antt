@@ -12,7 +12,7 @@ use Rattle.std.proofs.Math.ListN.{length, get_or-append}
 use Rattle.std.proofs.Math.Seq.{get_or-append_seam}
 use Rattle.folds.specs.Tests.{pick}
 use Rattle.folds.specs.Below.{count_below, passes_below}
-use Rattle.folds.specs.Runs.{gather, length-gather-count, Every, every_nil, every_cons, every_gather_below, every_take}
+use Rattle.folds.specs.Runs.{gather, length-gather_count, Every, every_nil, every_cons, every_gather_below, every_take}
 use Rattle.rules.specs.declared.Four.{Four}
 use Rattle.rules.specs.declared.Keep.{Keep}
 use Rattle.rules.specs.declared.Kept.{Kept}
@@ -71,16 +71,16 @@ module _ {A : Type 0} (u : SetUp) (z : A) (P : ℕ → A → Type 0) where
           rw (q, get_or-append_seam ps last [] (none z), get_or-append ps (last ∷ []) (none z) i (omega arith)) (omega arith)
 
   module _ (f : ℕ → List (Said A)) (pieces : (m : ℕ) → m < 10 → Piece u P m (f m)) where
-    rising-gather : (n : ℕ) → n ≤ 10 → Rising (gather n f)
+    rising_gather : (n : ℕ) → n ≤ 10 → Rising (gather n f)
     unfolding gather
-    rising-gather zero h = λ i j lt le. absurd (omega arith)
-    rising-gather (suc n) h =
+    rising_gather zero h = λ i j lt le. absurd (omega arith)
+    rising_gather (suc n) h =
         rising_more n (gather n f) (f n) (every_gather_below (Low n) (none z) f n (λ m l. piece_low m n (f m) l (pieces m (omega arith))))
-        (rising-gather n (omega arith)) (pieces n (omega arith))
+        (rising_gather n (omega arith)) (pieces n (omega arith))
 
     -- the first k of a run of k at least
-    first-differ : u.k ≤ length (gather 10 f) → Different u z (take u.k (gather 10 f)) P
-    first-differ h =
+    first_differ : u.k ≤ length (gather 10 f) → Different u z (take u.k (gather 10 f)) P
+    first_differ h =
         let ps : List (Said A) = gather 10 f in
         let n : length (take u.k ps) ≡ u.k = length-take-le u.k ps h in
         let fine : Every Fine (none z) (take u.k ps)
@@ -89,7 +89,7 @@ module _ {A : Type 0} (u : SetUp) (z : A) (P : ℕ → A → Type 0) where
           count = n;
           boxes = λ i l. let w = fine i (omega arith) in (w.0, w.1);
           apart = λ i j l g q.
-              let w = rising-gather 10 (omega arith) i j l (omega arith) in
+              let w = rising_gather 10 (omega arith) i j l (omega arith) in
               let a = get_or-take u.k ps i (none z) (omega arith) in
               let b = get_or-take u.k ps j (none z) g in
               let bad : ⊥ = ne w (sym (ap (λ (p : Said A). p.box) a) ∙ q ∙ ap (λ (p : Said A). p.box) b) in bad;
@@ -116,8 +116,8 @@ module _ (u : SetUp) (slot : Slot) (P : ℕ → Four → Type 0) (above : (m : �
   unfolding points
   points_differ h =
       let f : ℕ → List (Said Four) = λ m. held_at m (place_at slot m).point in
-      let n = length-gather-count f (held slot) (λ m. point-length m (place_at slot m).point) 10 in
-      first-differ u zero_four P f (λ m l. point_piece m l (place_at slot m).point refl) (omega arith)
+      let n = length-gather_count f (held slot) (λ m. point-length m (place_at slot m).point) 10 in
+      first_differ u zero_four P f (λ m l. point_piece m l (place_at slot m).point refl) (omega arith)
 
 -- ---- the recovery shares
 
@@ -135,13 +135,13 @@ module _ (u : SetUp) (shares : List Keep) (P : ℕ → Pair → Type 0) (above :
   pub lowest_differ : u.k ≤ length (share_points shares) → Different u no_pair (take u.k (share_points shares)) P
   unfolding share_points
   lowest_differ h =
-      first-differ u no_pair P (λ m. kept_at m (share_at shares m)) (λ m l. share_piece m l (share_at shares m) refl) h
+      first_differ u no_pair P (λ m. kept_at m (share_at shares m)) (λ m l. share_piece m l (share_at shares m) refl) h
 
   -- Where k are kept, they are.
   pub shares_differ : shares_kept shares ≡ u.k → Different u no_pair (share_points shares) P
   unfolding share_points shares_kept
   shares_differ h =
       let n : length (share_points shares) ≡ u.k
-      = length-gather-count _ (λ m. is_there (share_at shares m)) (λ m. share-length m (share_at shares m)) 10 ∙ h in
+      = length-gather_count _ (λ m. is_there (share_at shares m)) (λ m. share-length m (share_at shares m)) 10 ∙ h in
       subst (λ (ps : List (Said Pair)). Different u no_pair ps P) (take_all u.k (share_points shares) (omega arith))
       (lowest_differ (omega arith))

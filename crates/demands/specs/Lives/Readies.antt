@@ -31,7 +31,7 @@ use Rattle.rules.specs.Laws.Kept.TakenSlot.{other, count_of, aim, count_grows, c
 use Rattle.demands.specs.Terms.Honest.{Past}
 use Rattle.demands.specs.Terms.Histories.{Call, after}
 use Rattle.demands.specs.Terms.Dealing.{group, order, Different}
-use Rattle.demands.specs.Sharing.{share-passes}
+use Rattle.demands.specs.Sharing.{share_passes}
 use Rattle.demands.specs.Terms.Lives.{readies_sent, said}
 use Rattle.demands.specs.Histories.{past_self, past_more}
 use Rattle.demands.specs.Lives.Slots.{slot_of, slot_facts, slot_shape}
@@ -96,13 +96,13 @@ zero-pair : zero_slot.pair.kept ≡ Absent
 unfolding zero_slot
 zero-pair = refl
 
-module _ (u : SetUp) (set-up : (set_up u).answer.no ≡ 0) (D : List (List Element)) where
+module _ (u : SetUp) (set_up_lem : (set_up u).answer.no ≡ 0) (D : List (List Element)) where
   -- what is kept for the matrix
   abbrev kept_in : List Call → Kept
   kept_in cs = (slot_of (after u cs) D).pair.kept
 
   at_first : kept_in [] ≡ Absent
-  at_first = ap (λ (w : Slot). w.pair.kept) (slot_born u set-up D) ∙ zero-pair
+  at_first = ap (λ (w : Slot). w.pair.kept) (slot_born u set_up_lem D) ∙ zero-pair
 
   -- a call leaves the pair, or sends ready and keeps one where there was none
   data Pairing (c : Call) (cs : List Call) : Type 0 where
@@ -112,7 +112,7 @@ module _ (u : SetUp) (set-up : (set_up u).answer.no ≡ 0) (D : List (List Eleme
 
   pairing : (c : Call) (cs : List Call) → Pairing c cs
   unfolding after
-  pairing c cs = go (view x (good u set-up cs) c D)
+  pairing c cs = go (view x (good u set_up_lem cs) c D)
     where
       x : Record
       x = after u cs
@@ -121,13 +121,13 @@ module _ (u : SetUp) (set-up : (set_up u).answer.no ≡ 0) (D : List (List Eleme
       go (aside t) = left t.ready (ap (λ (w : Slot). w.pair.kept) t.slot)
       go (touched b m f true t) =
           made t.ready
-          (subst (λ (v : SetUp). matrix_passes (group v) v.k D ≡ true) (own-setup u set-up cs) t.passes)
-          (none_before_lem x.setup b m f (slot_of x D) (slot_shape x (good u set-up cs) D)
-          (slot_facts x (good u set-up cs) D).right
+          (subst (λ (v : SetUp). matrix_passes (group v) v.k D ≡ true) (own-setup u set_up_lem cs) t.passes)
+          (none_before_lem x.setup b m f (slot_of x D) (slot_shape x (good u set_up_lem cs) D)
+          (slot_facts x (good u set_up_lem cs) D).right
           t.low t.new (sym t.slot.test))
           (subst (λ (v : SetUp). (slot_of (next x c) D).pair.kept
           ≡ There (pair_from (order v) (take v.k (points (slot_of (next x c) D).places))))
-          (own-setup u set-up cs) t.slot.pair)
+          (own-setup u set_up_lem cs) t.slot.pair)
       go (touched b m f false t) = left t.ready t.slot.pair
 
   -- ready was sent once if a pair is kept, and else never
@@ -166,15 +166,15 @@ module _ (u : SetUp) (set-up : (set_up u).answer.no ≡ 0) (D : List (List Eleme
       → is_there (kept_in cs) ≡ true → Different u zero_four (take u.k (points (slot_of (after u cs) D).places)) P
   said_differ P cs each e =
       let x = after u cs in
-      let facts = subst (λ (v : SetUp). SlotFacts v (slot_of x D)) (own-setup u set-up cs) (slot_facts x (good u set-up cs) D) in
+      let facts = subst (λ (v : SetUp). SlotFacts v (slot_of x D)) (own-setup u set_up_lem cs) (slot_facts x (good u set_up_lem cs) D) in
       points_differ u (slot_of x D) P facts.contents.above
-      (λ m f l h. each (m + 1) f (sym (points-are u set-up D m l cs) ∙ h))
+      (λ m f l h. each (m + 1) f (sym (points-are u set_up_lem D m l cs) ∙ h))
       (enough u (slot_of x D) facts e)
 
   -- they pass the point check
   pub held_differ : (cs : List Call) → is_there (kept_in cs) ≡ true
       → Different u zero_four (take u.k (points (slot_of (after u cs) D).places)) (λ m f. point_check (group u) u.k D u.i m f ≡ true)
-  held_differ cs = said_differ _ cs (λ m f. said-passes u set-up D m f cs)
+  held_differ cs = said_differ _ cs (λ m f. said-passes u set_up_lem D m f cs)
 
   -- what holds, at each moment, of the pair of a slot's k lowest points holds of the pair kept
   pub pair_holds : (P : Pair → Type 0) (cs : List Call)
@@ -194,4 +194,4 @@ module _ (u : SetUp) (set-up : (set_up u).answer.no ≡ 0) (D : List (List Eleme
   pub pair-passes : (cs : List Call) (p : Pair) → kept_in cs ≡ There p → share_check (group u) u.k D u.i p ≡ true
   pair-passes cs p =
       pair_holds (λ v. share_check (group u) u.k D u.i v ≡ true) cs
-      (λ now q there passes. (share-passes u (numbers_keep_lem u set-up) D passes u.i _ (held_differ now there)).1) p
+      (λ now q there passes. (share_passes u (numbers_keep_lem u set_up_lem) D passes u.i _ (held_differ now there)).1) p

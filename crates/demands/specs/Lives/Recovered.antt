@@ -49,7 +49,7 @@ share_at_lem x g m i p l = go (ℕ_discrete i m)
         ap (λ (v : Keep). v.kept) (get_or-set_other x.shares m i (record { kept = There p }) nothing n)
         ∙ sym (pick-false _ (There p) (share_at x.shares i) (ne_eqb (m + 1) (i + 1) (λ q. n (omega arith))))
 
-module _ (u : SetUp) (set-up : (set_up u).answer.no ≡ 0) where
+module _ (u : SetUp) (set_up_lem : (set_up u).answer.no ≡ 0) where
   new_share : (i : ℕ) → i < 10 → share_at (new_record u).shares i ≡ Absent
   unfolding new_record
   new_share i l = ap (λ (v : Keep). v.kept) (get_or-replicate 10 i nothing nothing l)
@@ -62,8 +62,8 @@ module _ (u : SetUp) (set-up : (set_up u).answer.no ≡ 0) where
 
   pub shares-are : (i : ℕ) → i < 10 → (cs : List Call) → share_at (after u cs).shares i ≡ share_said u cs (i + 1)
   unfolding after share_said
-  shares-are i l [] = ap (λ (x : Record). share_at x.shares i) (born u set-up) ∙ new_share i l
-  shares-are i l (c ∷ cs) = go (turn_at u set-up cs c).way (shares-are i l cs)
+  shares-are i l [] = ap (λ (x : Record). share_at x.shares i) (born u set_up_lem) ∙ new_share i l
+  shares-are i l (c ∷ cs) = go (turn_at u set_up_lem cs c).way (shares-are i l cs)
     where
       x : Record
       x = after u cs
@@ -74,7 +74,7 @@ module _ (u : SetUp) (set-up : (set_up u).answer.no ≡ 0) where
       go (takes b m C f sends t) ih = rw (t.shares, t.unshared (i + 1)) ih
       go (keeps m p k) ih =
           rw (k.shares, k.shared (i + 1), k.pair)
-          (share_at_lem x (good u set-up cs) m i p k.low ∙ ap (λ (v : Kept). pick (eqb (m + 1) (i + 1)) (There p) v) ih)
+          (share_at_lem x (good u set_up_lem cs) m i p k.low ∙ ap (λ (v : Kept). pick (eqb (m + 1) (i + 1)) (There p) v) ih)
 
   -- ---- the pair recovered
 
@@ -83,8 +83,8 @@ module _ (u : SetUp) (set-up : (set_up u).answer.no ≡ 0) where
   unfolding after
   recovered-is p [] e =
       absurd (true≢false (sym (ap is_there e)
-      ∙ ap (λ (x : Record). is_there x.recovered.kept) (born u set-up) ∙ ap is_there new_recovered))
-  recovered-is p (c ∷ cs) e = go (turn_at u set-up cs c).way (recovered-is p cs) e
+      ∙ ap (λ (x : Record). is_there x.recovered.kept) (born u set_up_lem) ∙ ap is_there new_recovered))
+  recovered-is p (c ∷ cs) e = go (turn_at u set_up_lem cs c).way (recovered-is p cs) e
     where
       x : Record
       x = after u cs
@@ -98,7 +98,7 @@ module _ (u : SetUp) (set-up : (set_up u).answer.no ≡ 0) where
           last : (b : Bool) → pick b (There (recovered_from (order x.setup) (share_points (sharing x m r)))) x.recovered.kept ≡ There p
               → p ≡ recovered_from (order u) (share_points (sharing x m r))
           last true h = let q : recovered_from (order x.setup) (share_points (sharing x m r)) ≡ p = cc in
-              sym q ∙ ap (λ (v : SetUp). recovered_from (order v) (share_points (sharing x m r))) (own-setup u set-up cs)
+              sym q ∙ ap (λ (v : SetUp). recovered_from (order v) (share_points (sharing x m r))) (own-setup u set_up_lem cs)
           last false h = absurd (true≢false (sym (ap is_there h) ∙ k.unrecovered))
 
   -- ---- the shares pass
@@ -109,17 +109,17 @@ module _ (u : SetUp) (set-up : (set_up u).answer.no ≡ 0) where
   done_before cs c s m p l e h = go (after u cs).progress.completion refl (facts.progress.commanded (facts.shares.shared m l (ap is_there e)))
     where
       facts : Facts (after u cs)
-      facts = (good u set-up cs).facts
+      facts = (good u set_up_lem cs).facts
 
       go : (d : Completion) → (after u cs).progress.completion ≡ d → is_done (after u cs).progress.completion ≡ true
           → (after u cs).progress.completion ≡ With s
       go NotYet q t = absurd (true≢false (sym t ∙ ap is_done q))
-      go (With r) q t = q ∙ sym ((turn_at u set-up cs c).turned.still r q) ∙ h
+      go (With r) q t = q ∙ sym ((turn_at u set_up_lem cs c).turned.still r q) ∙ h
 
   -- the completed matrix does not change
   matrix_stays : (cs : List Call) (c : Call) (s : ℕ) → (after u cs).progress.completion ≡ With s
       → matrix_of (slot_at (next (after u cs) c) s) ≡ matrix_of (slot_at (after u cs) s)
-  matrix_stays cs c s e = ((turn_at u set-up cs c).turned.stays s ((good u set-up cs).facts.progress.completion s e).used).1
+  matrix_stays cs c s e = ((turn_at u set_up_lem cs c).turned.stays s ((good u set_up_lem cs).facts.progress.completion s e).used).1
 
   abbrev Passes : Record → ℕ → ℕ → Pair → Type 0
   Passes x s m p = share_check (group u) u.k (matrix_of (slot_at x s)) (m + 1) p ≡ true
@@ -130,8 +130,8 @@ module _ (u : SetUp) (set-up : (set_up u).answer.no ≡ 0) where
   unfolding after
   share-pass s m p l [] d e =
       absurd (true≢false (sym (ap is_there e)
-      ∙ ap (λ (x : Record). is_there (share_at x.shares m)) (born u set-up) ∙ ap is_there (new_share m l)))
-  share-pass s m p l (c ∷ cs) d e = go (turn_at u set-up cs c).way (share-pass s m p l cs)
+      ∙ ap (λ (x : Record). is_there (share_at x.shares m)) (born u set_up_lem) ∙ ap is_there (new_share m l)))
+  share-pass s m p l (c ∷ cs) d e = go (turn_at u set_up_lem cs c).way (share-pass s m p l cs)
     where
       x : Record
       x = after u cs
@@ -149,7 +149,7 @@ module _ (u : SetUp) (set-up : (set_up u).answer.no ≡ 0) where
       go (keeps i r k) ih = new (decide (eqb (i + 1) (m + 1)))
         where
           is : pick (eqb (i + 1) (m + 1)) (There r) (share_at x.shares m) ≡ There p
-          is = sym (share_at_lem x (good u set-up cs) i m r k.low) ∙ ap (λ (v : List Keep). share_at v m) (sym k.shares) ∙ e
+          is = sym (share_at_lem x (good u set_up_lem cs) i m r k.low) ∙ ap (λ (v : List Keep). share_at v m) (sym k.shares) ∙ e
 
           was : x.progress.completion ≡ With s
           was = sym k.completion ∙ d
@@ -159,7 +159,7 @@ module _ (u : SetUp) (set-up : (set_up u).answer.no ≡ 0) where
               let here : There r ≡ There p = sym (pick_true _ (There r) (share_at x.shares m) q) ∙ is in
               let same : r ≡ p = cc in
               ap (λ (C : List (List Element)). share_check (group u) u.k C (m + 1) p) (matrix_stays cs c s was)
-              ∙ subst (λ (v : SetUp). share_check (group v) v.k (matrix_of (slot_at x s)) (m + 1) p ≡ true) (own-setup u set-up cs)
+              ∙ subst (λ (v : SetUp). share_check (group v) v.k (matrix_of (slot_at x s)) (m + 1) p ≡ true) (own-setup u set_up_lem cs)
               (subst₂ (λ (j : ℕ) (v : Pair). share_check (group x.setup) x.setup.k (matrix_of (slot_at x s)) j v ≡ true)
               (eqb-true (i + 1) (m + 1) q) same (subst (λ (v : Completion). share_checks x v (i + 1) r ≡ true) was k.check))
           new (inr q) = old (sym (pick-false _ (There r) (share_at x.shares m) q) ∙ is) ih
@@ -172,8 +172,8 @@ module _ (u : SetUp) (set-up : (set_up u).answer.no ≡ 0) where
       → Different u no_pair (share_points (after u cs).shares) P
   recovered_differ P p cs e each =
       let x = after u cs in
-      let facts = (good u set-up cs).facts in
-      let with-u = own-setup u set-up cs in
+      let facts = (good u set_up_lem cs).facts in
+      let with-u = own-setup u set_up_lem cs in
       let all = eqb-true (shares_kept x.shares) x.setup.k (sym facts.shares.exactly ∙ ap is_there e) ∙ ap (λ (v : SetUp). v.k) with-u in
       shares_differ u x.shares P
       (λ m l h. sym (facts.shares.senders m l) ∙ facts.none m 3 l (subst (λ (v : SetUp). v.n ≤ m) (sym with-u) h) (omega arith))
@@ -183,11 +183,11 @@ module _ (u : SetUp) (set-up : (set_up u).answer.no ≡ 0) where
       → committed (group u) p.first.0 p.second.0 ≡ entry (matrix_of (slot_at (after u cs) s)) 0 0
   report-open s p cs d e =
       let x = after u cs in
-      let facts = (good u set-up cs).facts in
+      let facts = (good u set_up_lem cs).facts in
       let done = facts.progress.completion s d in
       let passes = subst (λ (v : SetUp). matrix_passes (group v) v.k (matrix_of (slot_at x s)) ≡ true)
-      (own-setup u set-up cs) ((facts.slots.each s done.within).contents.passes done.used) in
+      (own-setup u set_up_lem cs) ((facts.slots.each s done.within).contents.passes done.used) in
       ap (λ (v : Pair). committed (group u) v.first.0 v.second.0) (recovered-is p cs e)
-      ∙ shares_open u (numbers_keep_lem u set-up) (matrix_of (slot_at x s)) passes (share_points x.shares)
+      ∙ shares_open u (numbers_keep_lem u set_up_lem) (matrix_of (slot_at x s)) passes (share_points x.shares)
       (recovered_differ (λ m v. share_check (group u) u.k (matrix_of (slot_at x s)) m v ≡ true) p cs e
       (λ m v l h. share-pass s m v l cs d h))

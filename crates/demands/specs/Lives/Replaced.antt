@@ -65,41 +65,41 @@ module _ (x : Record) (g : Good x) (C : List (List Element)) (s : ℕ) (found : 
     elsewhere : (r : ℕ) → (r ≡ s → ⊥) → slot_at y r ≡ slot_at x r
     elsewhere r n = ap (λ (l : List Slot). get_or l r no_slot) slots ∙ get_or-set_other x.slots s r new no_slot n
 
-    new-agrees : (D : List (List Element)) → same_matrix x.setup.k C D ≡ true → same_matrix y.setup.k (matrix_of new) D ≡ true
-    new-agrees D h = rw (setup, matrix) (agree_trans x.setup.k (matrix_of (opened C (slot_at x s))) C D open_agrees h)
+    new_agrees : (D : List (List Element)) → same_matrix x.setup.k C D ≡ true → same_matrix y.setup.k (matrix_of new) D ≡ true
+    new_agrees D h = rw (setup, matrix) (agree_trans x.setup.k (matrix_of (opened C (slot_at x s))) C D open_agrees h)
 
-    agrees-new : (D : List (List Element)) → same_matrix y.setup.k (matrix_of new) D ≡ true → same_matrix x.setup.k C D ≡ true
-    agrees-new D h =
+    agrees_new : (D : List (List Element)) → same_matrix y.setup.k (matrix_of new) D ≡ true → same_matrix x.setup.k C D ≡ true
+    agrees_new D h =
         agree_trans x.setup.k C (matrix_of new) D
         (agree_comm x.setup.k C (matrix_of new) ∙ ap (λ (M : List (List Element)). same_matrix x.setup.k M C) matrix ∙ open_agrees)
         (ap (λ (u : SetUp). same_matrix u.k (matrix_of new) D) (sym setup) ∙ h)
 
     -- The slot of the matrix is the new one.
-    pub new-has : (D : List (List Element)) → same_matrix x.setup.k C D ≡ true → Has y D s
-    new-has D h =
+    pub new_has : (D : List (List Element)) → same_matrix x.setup.k C D ≡ true → Has y D s
+    new_has D h =
         record {
           within = found.within;
           used = ap (λ (v : Slot). v.used) here ∙ used;
-          agrees = ap (λ (v : Slot). same_matrix y.setup.k (matrix_of v) D) here ∙ new-agrees D h;
+          agrees = ap (λ (v : Slot). same_matrix y.setup.k (matrix_of v) D) here ∙ new_agrees D h;
         }
 
-    pub slot-own : (D : List (List Element)) → same_matrix x.setup.k C D ≡ true → slot_of y D ≡ new
-    slot-own D h = slot_has y gy D s (new-has D h) ∙ here
+    pub slot_own : (D : List (List Element)) → same_matrix x.setup.k C D ≡ true → slot_of y D ≡ new
+    slot_own D h = slot_has y gy D s (new_has D h) ∙ here
 
-    has-moves : (D : List (List Element)) (r : ℕ) → (r ≡ s → ⊥) → Has x D r → Has y D r
-    has-moves D r n h = record { within = h.within; used = rw (elsewhere r n) h.used; agrees = rw (elsewhere r n, setup) h.agrees }
+    has_moves : (D : List (List Element)) (r : ℕ) → (r ≡ s → ⊥) → Has x D r → Has y D r
+    has_moves D r n h = record { within = h.within; used = rw (elsewhere r n) h.used; agrees = rw (elsewhere r n, setup) h.agrees }
 
-    has-back : (D : List (List Element)) (r : ℕ) → (r ≡ s → ⊥) → Has y D r → Has x D r
-    has-back D r n h =
+    has_back : (D : List (List Element)) (r : ℕ) → (r ≡ s → ⊥) → Has y D r → Has x D r
+    has_back D r n h =
         record { within = h.within; used = rw (← elsewhere r n) h.used; agrees = rw (← elsewhere r n, ← setup) h.agrees }
 
     -- The slot of any other matrix is as it was.
-    pub slot-other : (D : List (List Element)) → same_matrix x.setup.k C D ≡ false → slot_of y D ≡ slot_of x D
-    slot-other D h = ⊎_elim (λ w. kept w.0 w.1) none (some_has x g D)
+    pub slot_other : (D : List (List Element)) → same_matrix x.setup.k C D ≡ false → slot_of y D ≡ slot_of x D
+    slot_other D h = ⊎_elim (λ w. kept w.0 w.1) none (some_has x g D)
       where
         -- slot s has the matrix or none
-        not-here : (r : ℕ) → Has x D r → r ≡ s → ⊥
-        not-here r i e =
+        not_here : (r : ℕ) → Has x D r → r ≡ s → ⊥
+        not_here r i e =
             ⊎_elim
             (λ f.
             true≢false (sym (agree_trans x.setup.k C (matrix_of (slot_at x s)) D
@@ -109,20 +109,20 @@ module _ (x : Record) (g : Good x) (C : List (List Element)) (s : ℕ) (found : 
 
         kept : (r : ℕ) → Has x D r → slot_of y D ≡ slot_of x D
         kept r i =
-            slot_has y gy D r (has-moves D r (not-here r i) i) ∙ elsewhere r (not-here r i) ∙ sym (slot_has x g D r i)
+            slot_has y gy D r (has_moves D r (not_here r i) i) ∙ elsewhere r (not_here r i) ∙ sym (slot_has x g D r i)
 
         nowhere : Lacks x D → (r : ℕ) → Dec (r ≡ s) → Has y D r → ⊥
         nowhere l r (yes e) i =
-            true≢false (sym (agrees-new D (ap (λ (v : Slot). same_matrix y.setup.k (matrix_of v) D) (sym here)
+            true≢false (sym (agrees_new D (ap (λ (v : Slot). same_matrix y.setup.k (matrix_of v) D) (sym here)
             ∙ (rw e at i.agrees))) ∙ h)
-        nowhere l r (no n) i = l r (has-back D r n i)
+        nowhere l r (no n) i = l r (has_back D r n i)
 
         none : Lacks x D → slot_of y D ≡ slot_of x D
         none l = slot_lacks y gy D (λ r. nowhere l r (ℕ_discrete r s)) ∙ sym (slot_lacks x g D l)
 
     -- A slot in use stays in use, with its matrix.
-    pub slot-stays : (r : ℕ) → (slot_at x r).used ≡ true → ((slot_at y r).used ≡ true) × (matrix_of (slot_at y r) ≡ matrix_of (slot_at x r))
-    slot-stays r e = go (ℕ_discrete r s)
+    pub slot_stays : (r : ℕ) → (slot_at x r).used ≡ true → ((slot_at y r).used ≡ true) × (matrix_of (slot_at y r) ≡ matrix_of (slot_at x r))
+    slot_stays r e = go (ℕ_discrete r s)
       where
         go : Dec (r ≡ s) → ((slot_at y r).used ≡ true) × (matrix_of (slot_at y r) ≡ matrix_of (slot_at x r))
         go (yes q) =

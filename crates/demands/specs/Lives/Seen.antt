@@ -65,8 +65,8 @@ module _ (x : Record) (g : Good x) (c : Call) (D : List (List Element)) where
 
   module _ (b : Side) (m : ℕ) (C : List (List Element)) (f : Four) (sends : Bool) (t : Takes x c b m C f sends) where
     -- the message is for another matrix
-    for-other : same_matrix x.setup.k C D ≡ false → View x c D
-    for-other h =
+    for_other : same_matrix x.setup.k C D ≡ false → View x c D
+    for_other h =
         aside (record {
           slot = t.took.other D h;
           unchecked = λ a i. none (ear a + 1) i;
@@ -82,8 +82,8 @@ module _ (x : Record) (g : Good x) (c : Call) (D : List (List Element)) where
             ∙ and_false (eqb (m + 1) i)
 
     -- for this one
-    for-this : same_matrix x.setup.k C D ≡ true → View x c D
-    for-this h =
+    for_this : same_matrix x.setup.k C D ≡ true → View x c D
+    for_this h =
         touched b m f sends (record {
           low = t.low;
           new = slot_unmarked x g D b m t.low t.new;
@@ -114,5 +114,5 @@ module _ (x : Record) (g : Good x) (c : Call) (D : List (List Element)) where
       go : Way x c → View x c D
       go (quiet q) = unmoved q.slots (turn x g c).turned.setup (λ b i. q.unchecked b i D) q.ready
       go (takes b m C f sends t) =
-          ⊎_elim (for-this b m C f sends t) (for-other b m C f sends t) (decide (same_matrix x.setup.k C D))
+          ⊎_elim (for_this b m C f sends t) (for_other b m C f sends t) (decide (same_matrix x.setup.k C D))
       go (keeps m p q) = unmoved q.slots (turn x g c).turned.setup (λ b i. q.unchecked b i D) q.ready

@@ -116,12 +116,12 @@ module _ (b : Side) (x : Record) (m s : ℕ) (v : Slot) where
         recovered = Absent;
       })
   unfolding heard
-  puts sends due c sent bytes now ready echo no-send no-recovery done still completes =
+  puts sends due c sent bytes now ready echo no-send no_recovery done still completes =
       record {
         slots = refl;
         ready = ready;
         echo = echo;
-        marks = marks_stay _ _ _ refl refl no-send no-recovery;
+        marks = marks_stay _ _ _ refl refl no-send no_recovery;
         setup = refl;
         ears = refl;
         shares = refl;

@@ -26,7 +26,7 @@ use Rattle.rules.specs.Laws.Room.{Found}
 use Rattle.rules.specs.Laws.Kept.TakenSlot.{mark_own, mark_other, place_own, place_other}
 use Rattle.rules.specs.Laws.Kept.Changes.{Good}
 use Rattle.demands.specs.Lives.Slots.{Has, slot_of, slot_agree}
-use Rattle.demands.specs.Lives.Replaced.{dressed, open_as, new-has, slot-own, slot-other, slot-stays}
+use Rattle.demands.specs.Lives.Replaced.{dressed, open_as, new_has, slot_own, slot_other, slot_stays}
 use Rattle.demands.specs.Lives.Stepped.{step_of, paired, stepped}
 
 -- ---- what is read of it
@@ -153,7 +153,7 @@ module _ (b : Side) (x : Record) (g : Good x) (m : ℕ) (C : List (List Element)
       let new = after_it x b m f o w e sends in
       let used = it_used x b m f o w e sends in
       let same = it_matrix x b m f o w e sends in
-      let mine = slot-own x g C s found y gy new st.slots st.setup used same in
+      let mine = slot_own x g C s found y gy new st.slots st.setup used same in
       record {
         own = λ D h. subst₂ (SlotTook x.setup b m f sends) (sym (slot_agree x C D h)) (sym (mine D h)) (record {
           test = it_test x b m f o w e;
@@ -161,9 +161,9 @@ module _ (b : Side) (x : Record) (g : Good x) (m : ℕ) (C : List (List Element)
           marks = it_marks x b m f o w e sends;
           pair = it_pair x b m f o w e sends;
         });
-        other = slot-other x g C s found y gy new st.slots st.setup used same;
-        stays = slot-stays x g C s found y gy new st.slots st.setup used same;
-        has = new-has x g C s found y gy new st.slots st.setup used same;
+        other = slot_other x g C s found y gy new st.slots st.setup used same;
+        stays = slot_stays x g C s found y gy new st.slots st.setup used same;
+        has = new_has x g C s found y gy new st.slots st.setup used same;
         completes = λ D h none due.
             st.completes none (it_completes x b m f o w e ∙ ap (λ (v : Slot). completion_due x.setup b (taken b v m f)) (sym (slot_agree x C D h)) ∙ due);
       }

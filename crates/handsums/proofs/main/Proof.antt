@@ -15,7 +15,7 @@ sums-requires c κs =
 sums-requires-2 : tie.Need-sums-requires-2
 unfolding groups
 sums-requires-2 c κs =
-    subst⁻¹ (λ g. (0 < g.p) × (10 ≤ g.q)) c.at2.ensures (omega arith, omega arith)
+    subst⁻¹ (λ g. (0 < g.p) × (10 ≤ g.q)) c.at-2.ensures (omega arith, omega arith)
 
 pub main_spec : {M : Type 1} → statement M
 main_spec = tie.close (tie.spec (search rules) sums-requires (search rules) sums-requires-2 (search rules))

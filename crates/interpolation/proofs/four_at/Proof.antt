@@ -14,13 +14,13 @@ returns c =
     let start = weights.before in
     let a = start.args in
     let p = start.requires in
-    let rows : both.before.weighted-pair.result ≡ pair_through a.q (said_by a.rows) a.x =
-    (rw weights.weights.ensures at both.before.weighted-pair.ensures) ∙ weighted_through _ _ a.x p.based.fit.few in
-    let columns : both.weighted-pair2.result ≡ pair_through a.q (said_by a.columns) a.x =
-    (rw (weights.weights.ensures, ← p.count, ← p.boxes) at both.weighted-pair2.ensures) ∙ weighted_through _ _ a.x p.fit.few in
+    let rows : both.before.weighted_pair-a.result ≡ pair_through a.q (said_by a.rows) a.x =
+    (rw weights.weights-weight.ensures at both.before.weighted_pair-a.ensures) ∙ weighted_through _ _ a.x p.based.fit.few in
+    let columns : both.weighted_pair-b.result ≡ pair_through a.q (said_by a.columns) a.x =
+    (rw (weights.weights-weight.ensures, ← p.count, ← p.boxes) at both.weighted_pair-b.ensures) ∙ weighted_through _ _ a.x p.fit.few in
     rw (rows, columns)
 
-pub four-at-spec : {M : Type 1} → statement M
-four-at-spec =
+pub four_at_spec : {M : Type 1} → statement M
+four_at_spec =
     tie.close
     (tie.spec (λ c κs. c.requires.based) (λ c κs. c.before.requires.based.fit) (λ c κs. c.before.before.requires.fit) returns)

@@ -10,28 +10,28 @@ use Rattle.interpolation.specs.Lagrange.{inverse_at, inverse_row}
 use Rattle.interpolation.proofs.inverses.Statement.{statement}
 use Rattle.interpolation.proofs.inverses.Tie as tie
 
-abbrev invariant-loop : tie.invariant-loop
-invariant-loop q all count made₀ i₀ made i =
+abbrev invariant-loop-i : tie.invariant-loop-i
+invariant-loop-i q all count made₀ i₀ made i =
     Filling (inverse_at q all.count all.boxes) (replicate 8 (exponent 0)) all.count i made
 
-abbrev decreases-loop : tie.decreases-loop
-decreases-loop q all count made₀ i₀ made i = all.count - i
+abbrev decreases-loop-i : tie.decreases-loop-i
+decreases-loop-i q all count made₀ i₀ made i = all.count - i
 
-loop-again : tie.Need-loop-preserved invariant-loop decreases-loop
+loop-again : tie.Need-loop-i-preserved invariant-loop-i decreases-loop-i
 loop-again c =
-    let own = c.before.others-at.ensures in
-    filling_more c.before.before.before.before.loop.invariant c.before.before.before.loop-test.true (rw own at c.inverted.ensures)
+    let own = c.before.others_at-own.ensures in
+    filling_more c.before.before.before.before.loop-i.invariant c.before.before.before.loop-i-test.true (rw own at c.inverted-x.ensures)
 
-returns : tie.Need-returns invariant-loop decreases-loop
+returns : tie.Need-returns invariant-loop-i decreases-loop-i
 unfolding inverse_row row
-returns c = let loop = c.before.loop in filling_all loop.invariant c.loop-test.false
+returns c = let loop = c.before.loop-i in filling_all loop.invariant c.loop-i-test.false
 
-pub inverses-spec : {M : Type 1} → statement M
-inverses-spec =
+pub inverses_spec : {M : Type 1} → statement M
+inverses_spec =
     tie.close
     (tie.spec
-    invariant-loop
-    decreases-loop
+    invariant-loop-i
+    decreases-loop-i
     (λ c. filling_none)
     (λ c. search rules)
     (λ c. search rules)

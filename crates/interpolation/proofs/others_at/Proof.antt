@@ -33,38 +33,38 @@ module _ (q : ℕ) (xs : ℕ → ℕ) (i x j : ℕ) where
   own : j ≡ i → prod_below j (factor q xs i x) % q ≡ prod_below (j + 1) (factor q xs i x) % q
   own e = ap (λ t. t % q) (sym (prod_below_more (factor q xs i x) j ∙ (rw (eq-eqb j i e) (mul-one _))))
 
-abbrev invariant-loop : tie.invariant-loop
-invariant-loop q i x all count made₀ j₀ made j = (j ≤ all.count) × (made.0 ≡ prod_below j (factor q (box_at all.boxes) i x) % q)
+abbrev invariant-loop-j : tie.invariant-loop-j
+invariant-loop-j q i x all count made₀ j₀ made j = (j ≤ all.count) × (made.0 ≡ prod_below j (factor q (box_at all.boxes) i x) % q)
 
-abbrev decreases-loop : tie.decreases-loop
-decreases-loop q i x all count made₀ j₀ made j = all.count - j
+abbrev decreases-loop-j : tie.decreases-loop-j
+decreases-loop-j q i x all count made₀ j₀ made j = all.count - j
 
-loop-again : tie.Need-loop-preserved invariant-loop decreases-loop
+loop-again : tie.Need-loop-j-preserved invariant-loop-j decreases-loop-j
 loop-again c =
-    let inv = c.before.before.loop.invariant.1 in (
+    let inv = c.before.before.loop-j.invariant.1 in (
       omega arith,
       ⊎_elim
           (λ w. rw (w.4, w.3.ensures, w.2.ensures, inv) (another _ _ _ _ _ w.0.taken))
           (λ w. rw (w.1, inv) (own _ _ _ _ _ w.0.left))
-          c.if1.branch,
+          c.if-j-i.branch,
     )
 
-returns : tie.Need-returns invariant-loop decreases-loop
+returns : tie.Need-returns invariant-loop-j decreases-loop-j
 unfolding others
 returns c =
-    let all : c.before.loop.j ≡ c.before.before.args.t2.count = omega arith in
-    ap exponent (rw all at c.before.loop.invariant.1)
+    let all : c.before.loop-j.j ≡ c.before.before.args.t2.count = omega arith in
+    ap exponent (rw all at c.before.loop-j.invariant.1)
 
-pub others-at-spec : {M : Type 1} → statement M
-others-at-spec =
+pub others_at_spec : {M : Type 1} → statement M
+others_at_spec =
     tie.close
     (found3 (tie.spec
-    invariant-loop
-    decreases-loop
+    invariant-loop-j
+    decreases-loop-j
     (λ c. c.requires.some)
     (λ c. (omega arith, ap (λ t. t % c.args.q) (sym (prod_below-zero _))))
     (λ c. search rules)
     (λ c. search rules)
-    (λ c κs. (search rules, c.before.before.before.before.requires.low _ c.before.before.loop-test.true))) (search rules)
+    (λ c κs. (search rules, c.before.before.before.before.requires.low _ c.before.before.loop-j-test.true))) (search rules)
     loop-again
     returns)

@@ -13,27 +13,27 @@ use Rattle.interpolation.specs.Lagrange.{weighted_sum}
 use Rattle.interpolation.proofs.weighted.Statement.{statement}
 use Rattle.interpolation.proofs.weighted.Tie as tie
 
-abbrev invariant-loop : tie.invariant-loop
-invariant-loop q count weight value sum₀ i₀ sum i =
+abbrev invariant-loop-i : tie.invariant-loop-i
+invariant-loop-i q count weight value sum₀ i₀ sum i =
     (i ≤ count) × (sum.0 ≡ sum_below i (λ l. coefficient weight l * coefficient value l) % q)
 
-abbrev decreases-loop : tie.decreases-loop
-decreases-loop q count weight value sum₀ i₀ sum i = count - i
+abbrev decreases-loop-i : tie.decreases-loop-i
+decreases-loop-i q count weight value sum₀ i₀ sum i = count - i
 
-loop-again : tie.Need-loop-preserved invariant-loop decreases-loop
+loop-again : tie.Need-loop-i-preserved invariant-loop-i decreases-loop-i
 loop-again c =
     let turn = c.before.before.before in
-    (omega arith, rw (c.sum.ensures, c.before.product.ensures, turn.before.before.loop.invariant.1) (sum-mod_more_mod _ _ _))
+    (omega arith, rw (c.sum-sum.ensures, c.before.product-term.ensures, turn.before.before.loop-i.invariant.1) (sum-mod_more_mod _ _ _))
 
-returns : tie.Need-returns invariant-loop decreases-loop
+returns : tie.Need-returns invariant-loop-i decreases-loop-i
 unfolding weighted_sum
 returns c =
-    let all : c.before.loop.i ≡ c.before.before.args.count = omega arith in
-    ap exponent (rw all at c.before.loop.invariant.1)
+    let all : c.before.loop-i.i ≡ c.before.before.args.count = omega arith in
+    ap exponent (rw all at c.before.loop-i.invariant.1)
 
-pub weighted-spec : {M : Type 1} → statement M
-weighted-spec =
+pub weighted_spec : {M : Type 1} → statement M
+weighted_spec =
     tie.close
-    (found8 (tie.spec invariant-loop decreases-loop (λ c. search rules) (λ c. (omega arith, ap (λ t. t % c.args.q) (sym (sum_below-zero _))))) (search rules)
+    (found8 (tie.spec invariant-loop-i decreases-loop-i (λ c. search rules) (λ c. (omega arith, ap (λ t. t % c.args.q) (sym (sum_below-zero _))))) (search rules)
     loop-again
     returns)

@@ -6,7 +6,7 @@ use Rattle.interpolation.proofs.weighted_pair.Tie as tie
 
 returns : tie.Need-returns
 unfolding weighted_pair
-returns c = rw (c.before.weighted.ensures, c.weighted2.ensures)
+returns c = rw (c.before.weighted.ensures, c.weighted-2.ensures)
 
-pub weighted-pair-spec : {M : Type 1} → statement M
-weighted-pair-spec = tie.close (tie.spec (λ c κs. search rules) (λ c κs. search rules) returns)
+pub weighted_pair_spec : {M : Type 1} → statement M
+weighted_pair_spec = tie.close (tie.spec (λ c κs. search rules) (λ c κs. search rules) returns)

@@ -22,27 +22,27 @@ unfolding inverse_row
 under_at q all under b i l =
     ap (λ (r : List Exponent). coefficient r i) b.inverses ∙ coefficient_at all.count (λ i. (inverse_at q all.count all.boxes i).0) b.fit.few i l
 
-abbrev invariant-loop : tie.invariant-loop
-invariant-loop q all x inverse count made₀ i₀ made i =
+abbrev invariant-loop-i : tie.invariant-loop-i
+invariant-loop-i q all x inverse count made₀ i₀ made i =
     Filling (weight_at q all.count all.boxes x) (replicate 8 (exponent 0)) all.count i made
 
-abbrev decreases-loop : tie.decreases-loop
-decreases-loop q all x inverse count made₀ i₀ made i = all.count - i
+abbrev decreases-loop-i : tie.decreases-loop-i
+decreases-loop-i q all x inverse count made₀ i₀ made i = all.count - i
 
-loop-again : tie.Need-loop-preserved invariant-loop decreases-loop
+loop-again : tie.Need-loop-i-preserved invariant-loop-i decreases-loop-i
 loop-again c =
     let turn = c.before.before.before in
     let start = turn.before.before in
-    let under = under_at _ _ _ start.requires _ turn.loop-test.true in
-    filling_more turn.before.loop.invariant turn.loop-test.true (rw (c.product.ensures, c.before.before.others-at.ensures, under))
+    let under = under_at _ _ _ start.requires _ turn.loop-i-test.true in
+    filling_more turn.before.loop-i.invariant turn.loop-i-test.true (rw (c.product-w.ensures, c.before.before.others_at-over.ensures, under))
 
-returns : tie.Need-returns invariant-loop decreases-loop
+returns : tie.Need-returns invariant-loop-i decreases-loop-i
 unfolding weight_row row
-returns c = let loop = c.before.loop in filling_all loop.invariant c.loop-test.false
+returns c = let loop = c.before.loop-i in filling_all loop.invariant c.loop-i-test.false
 
-pub weights-spec : {M : Type 1} → statement M
-weights-spec =
+pub weights_spec : {M : Type 1} → statement M
+weights_spec =
     tie.close
-    (found7 (tie.spec invariant-loop decreases-loop (λ c. filling_none) (λ c κs. c.before.before.requires.fit)) (search rules)
+    (found7 (tie.spec invariant-loop-i decreases-loop-i (λ c. filling_none) (λ c κs. c.before.before.requires.fit)) (search rules)
     loop-again
     returns)

@@ -7,8 +7,8 @@ use Rattle.rules.specs.Laws.Matrices.{square_small}
 use Rattle.message_reading.proofs.end_place.Statement.{statement}
 use Rattle.message_reading.proofs.end_place.Tie as tie
 
-pub end-place-spec : {M : Type 1} → statement M
-end-place-spec =
+pub end_place_spec : {M : Type 1} → statement M
+end_place_spec =
     tie.close
     (tie.spec
     (λ c. search rules)

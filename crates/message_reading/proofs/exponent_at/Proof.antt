@@ -6,5 +6,5 @@ use Rattle.rules.specs.Numbers.{exponent}
 use Rattle.message_reading.proofs.exponent_at.Statement.{statement}
 use Rattle.message_reading.proofs.exponent_at.Tie as tie
 
-pub exponent-at-spec : {M : Type 1} → statement M
-exponent-at-spec = tie.close (tie.spec (λ c κs. search rules) (λ c. ap exponent c.number.ensures))
+pub exponent_at_spec : {M : Type 1} → statement M
+exponent_at_spec = tie.close (tie.spec (λ c κs. search rules) (λ c. ap exponent c.number.ensures))

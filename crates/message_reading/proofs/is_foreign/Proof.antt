@@ -7,12 +7,12 @@ use Rattle.rules.specs.Messages.{foreign}
 use Rattle.message_reading.proofs.is_foreign.Statement.{statement}
 use Rattle.message_reading.proofs.is_foreign.Tie as tie
 
-pub is-foreign-spec : {M : Type 1} → statement M
+pub is_foreign_spec : {M : Type 1} → statement M
 unfolding foreign
-is-foreign-spec =
+is_foreign_spec =
     tie.close
     (found3 tie.spec (search rules)
-    (λ c. rw (← c.before.before.wide.ensures, ne_eqb _ _ c.if1.true))
+    (λ c. rw (← c.before.before.wide.ensures, ne_eqb _ _ c.if-wide-u.true))
     (λ c κs. search rules)
     (λ c. search rules)
-    (λ c. rw (← c.before.before.before.before.wide.ensures, eq-eqb _ _ c.before.before.if1.false, ← c.before.number.ensures)))
+    (λ c. rw (← c.before.before.before.before.wide.ensures, eq-eqb _ _ c.before.before.if-wide-u.false, ← c.before.number.ensures)))

@@ -8,19 +8,19 @@ use Rattle.rules.specs.Messages.{word}
 use Rattle.message_reading.proofs.number.Statement.{statement}
 use Rattle.message_reading.proofs.number.Tie as tie
 
-add-result : tie.Need-overflow-add-result
+add-result : tie.Need-overflow_add-result
 add-result c =
     let known = c.before.before.before.before in
     let p = known.before.args.p in
-    omega (arith, known.shared-slice-known.given p, known.shared-slice-known.given (p + 1))
+    omega (arith, known.shared_slice_known-1.given p, known.shared_slice_known-1.given (p + 1))
 
-pub number-spec : {M : Type 1} → statement M
+pub number_spec : {M : Type 1} → statement M
 unfolding word
-number-spec =
+number_spec =
     tie.close
     (found3 (tie.spec
     (λ c. search rules)
     (λ c κs. search rules)
-    (λ c. omega (arith, c.before.before.shared-slice-known.given c.before.before.before.args.p))) (search rules)
+    (λ c. omega (arith, c.before.before.shared_slice_known-1.given c.before.before.before.args.p))) (search rules)
     add-result
-    (λ c. rw (c.before.before.wide.ensures, c.wide2.ensures)))
+    (λ c. rw (c.before.before.wide.ensures, c.wide-2.ensures)))

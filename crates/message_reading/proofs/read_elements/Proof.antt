@@ -11,9 +11,9 @@ use Rattle.message_reading.specs.Reading.{row_in}
 use Rattle.message_reading.proofs.read_elements.Statement.{statement}
 use Rattle.message_reading.proofs.read_elements.Tie as tie
 
-pub read-elements-spec : {M : Type 1} → statement M
+pub read_elements_spec : {M : Type 1} → statement M
 unfolding row_in row
-read-elements-spec =
+read_elements_spec =
     tie.close
     (tie.spec
     (λ s p k row₀ l₀ made l. Filling (λ i. element (word s (p + 2 * i))) row₀ k l made)
@@ -26,5 +26,5 @@ read-elements-spec =
     (λ c. omega arith)
     (λ c. omega arith)
     (λ c. omega arith)
-    (λ c. filling_more c.before.before.loop.invariant c.before.loop-test.true (ap element c.number.ensures))
-    (λ c. filling_all c.before.loop.invariant c.loop-test.false))
+    (λ c. filling_more c.before.before.loop-l.invariant c.before.loop-l-test.true (ap element c.number.ensures))
+    (λ c. filling_all c.before.loop-l.invariant c.loop-l-test.false))

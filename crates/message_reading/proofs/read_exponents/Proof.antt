@@ -9,9 +9,9 @@ use Rattle.rules.specs.Messages.{word, coefficients_in}
 use Rattle.message_reading.proofs.read_exponents.Statement.{statement}
 use Rattle.message_reading.proofs.read_exponents.Tie as tie
 
-pub read-exponents-spec : {M : Type 1} → statement M
+pub read_exponents_spec : {M : Type 1} → statement M
 unfolding coefficients_in row
-read-exponents-spec =
+read_exponents_spec =
     tie.close
     (tie.spec
     (λ s p k a₀ l₀ made l. Filling (λ i. exponent (word s (p + 2 * i))) a₀ k l made)
@@ -24,5 +24,5 @@ read-exponents-spec =
     (λ c. omega arith)
     (λ c. omega arith)
     (λ c. omega arith)
-    (λ c. filling_more c.before.before.loop.invariant c.before.loop-test.true c.exponent-at.ensures)
-    (λ c. filling_all c.before.loop.invariant c.loop-test.false))
+    (λ c. filling_more c.before.before.loop-l.invariant c.before.loop-l-test.true c.exponent_at.ensures)
+    (λ c. filling_all c.before.loop-l.invariant c.loop-l-test.false))

@@ -6,9 +6,9 @@ use Rattle.rules.specs.Messages.{four_in}
 use Rattle.message_reading.proofs.read_four.Statement.{statement}
 use Rattle.message_reading.proofs.read_four.Tie as tie
 
-pub read-four-spec : {M : Type 1} → statement M
+pub read_four_spec : {M : Type 1} → statement M
 unfolding four_in
-read-four-spec =
+read_four_spec =
     tie.close
     (found8 tie.spec (search rules)
     (λ c. cc))

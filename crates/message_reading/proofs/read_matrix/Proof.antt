@@ -12,32 +12,32 @@ use Rattle.message_reading.specs.Reading.{row_in}
 use Rattle.message_reading.proofs.read_matrix.Statement.{statement}
 use Rattle.message_reading.proofs.read_matrix.Tie as tie
 
-abbrev invariant-loop : tie.invariant-loop
-invariant-loop s k c₀ j₀ c j = Filling (λ i. row k (element 0) (λ l. element (word s (7 + 2 * (i * k + l))))) c₀ k j c
+abbrev invariant-loop-j : tie.invariant-loop-j
+invariant-loop-j s k c₀ j₀ c j = Filling (λ i. row k (element 0) (λ l. element (word s (7 + 2 * (i * k + l))))) c₀ k j c
 
-abbrev decreases-loop : tie.decreases-loop
-decreases-loop s k c₀ j₀ c j = k - j
+abbrev decreases-loop-j : tie.decreases-loop-j
+decreases-loop-j s k c₀ j₀ c j = k - j
 
 -- row j is within the k by k numbers
-within : (c : tie.In-loop invariant-loop decreases-loop) → let k = c.before.before.before.before.args.u.k in c.before.loop.j * k + k ≤ k * k
-within c = row_within _ _ c.loop-test.true
+within : (c : tie.In-loop-j invariant-loop-j decreases-loop-j) → let k = c.before.before.before.before.args.u.k in c.before.loop-j.j * k + k ≤ k * k
+within c = row_within _ _ c.loop-j-test.true
 
-loop-again : tie.Need-loop-preserved invariant-loop decreases-loop
+loop-again : tie.Need-loop-j-preserved invariant-loop-j decreases-loop-j
 unfolding row_in
 loop-again c =
     let given = c.before.before.before.before.before.args in
-    let j = c.before.before.loop.j in
+    let j = c.before.before.loop-j.j in
     let same : (l : ℕ) → 7 + 2 * (j * given.u.k) + 2 * l ≡ 7 + 2 * (j * given.u.k + l) = λ l. omega arith in
-    filling_more c.before.before.loop.invariant c.before.loop-test.true
-    (c.read-elements.ensures ∙ row_same given.u.k (element 0) _ _ (λ l h. ap (λ (p : ℕ). element (word given.s.now p)) (same l)))
+    filling_more c.before.before.loop-j.invariant c.before.loop-j-test.true
+    (c.read_elements.ensures ∙ row_same given.u.k (element 0) _ _ (λ l h. ap (λ (p : ℕ). element (word given.s.now p)) (same l)))
 
-pub read-matrix-spec : {M : Type 1} → statement M
+pub read_matrix_spec : {M : Type 1} → statement M
 unfolding matrix_in matrix
-read-matrix-spec =
+read_matrix_spec =
     tie.close
     (tie.spec
-    invariant-loop
-    decreases-loop
+    invariant-loop-j
+    decreases-loop-j
     (λ c. omega arith)
     (λ c. filling_none)
     (λ c. omega (arith, within c))
@@ -49,4 +49,4 @@ read-matrix-spec =
     (λ c. omega arith)
     (λ c. omega arith)
     loop-again
-    (λ c. filling_all c.before.loop.invariant c.loop-test.false))
+    (λ c. filling_all c.before.loop-j.invariant c.loop-j-test.false))

@@ -5,9 +5,9 @@ use Rattle.rules.specs.Messages.{pair_in}
 use Rattle.message_reading.proofs.read_pair.Statement.{statement}
 use Rattle.message_reading.proofs.read_pair.Tie as tie
 
-pub read-pair-spec : {M : Type 1} → statement M
+pub read_pair_spec : {M : Type 1} → statement M
 unfolding pair_in
-read-pair-spec =
+read_pair_spec =
     tie.close
     (tie.spec
     (λ c κs. search rules)

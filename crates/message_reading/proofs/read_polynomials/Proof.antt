@@ -6,9 +6,9 @@ use Rattle.rules.specs.Messages.{polynomials_in}
 use Rattle.message_reading.proofs.read_polynomials.Statement.{statement}
 use Rattle.message_reading.proofs.read_polynomials.Tie as tie
 
-pub read-polynomials-spec : {M : Type 1} → statement M
+pub read_polynomials_spec : {M : Type 1} → statement M
 unfolding polynomials_in
-read-polynomials-spec =
+read_polynomials_spec =
     tie.close
     (found12 tie.spec (search rules)
     (λ c. cc))

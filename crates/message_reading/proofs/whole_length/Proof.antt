@@ -8,12 +8,12 @@ use Rattle.rules.specs.Messages.{whole_length}
 use Rattle.message_reading.proofs.whole_length.Statement.{statement}
 use Rattle.message_reading.proofs.whole_length.Tie as tie
 
-pub whole-length-spec : {M : Type 1} → statement M
+pub whole_length_spec : {M : Type 1} → statement M
 unfolding whole_length
-whole-length-spec =
+whole_length_spec =
     tie.close
     (found4 tie.spec (search rules)
-    (λ c. rw (eq-eqb _ 1 c.before.if1.true) (omega arith))
-    (λ c. rw (ne_eqb _ 1 c.before.if1.false, eq-eqb _ 4 c.if2.true))
+    (λ c. rw (eq-eqb _ 1 c.before.if-tag-eq1.true) (omega arith))
+    (λ c. rw (ne_eqb _ 1 c.before.if-tag-eq1.false, eq-eqb _ 4 c.if-tag-eq4.true))
     (λ c. search rules)
-    (λ c. rw (ne_eqb _ 1 c.before.if1.false, ne_eqb _ 4 c.if2.false) (omega arith)))
+    (λ c. rw (ne_eqb _ 1 c.before.if-tag-eq1.false, ne_eqb _ 4 c.if-tag-eq4.false) (omega arith)))

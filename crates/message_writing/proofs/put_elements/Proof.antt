@@ -10,9 +10,9 @@ use Rattle.message_writing.specs.Laws.{Put, put_none, put_more, put_all}
 use Rattle.message_writing.proofs.put_elements.Statement.{statement}
 use Rattle.message_writing.proofs.put_elements.Tie as tie
 
-pub put-elements-spec : {M : Type 1} → statement M
+pub put_elements_spec : {M : Type 1} → statement M
 unfolding row_bytes
-put-elements-spec =
+put_elements_spec =
     tie.close
     (tie.spec
     (λ out₀ at k row l₀ next₀ out l next. Put (λ i. two_bytes (get_or row i (element 0)).0) 2 k at out₀ out next l)
@@ -23,6 +23,6 @@ put-elements-spec =
     (λ c κs. omega arith)
     (λ c. omega arith)
     (λ c. omega arith)
-    (λ c. let turn = c.before.before.before.before.before in put_more turn.before.loop.invariant turn.loop-test.true c.before.before.put-number.ensures)
-    (λ c. c.before.loop.invariant.same)
-    (λ c. put_all c.before.loop.invariant c.loop-test.false))
+    (λ c. let turn = c.before.before.before.before.before in put_more turn.before.loop-l.invariant turn.loop-l-test.true c.before.before.put_number-next.ensures)
+    (λ c. c.before.loop-l.invariant.same)
+    (λ c. put_all c.before.loop-l.invariant c.loop-l-test.false))

@@ -8,9 +8,9 @@ use Rattle.message_writing.specs.Laws.{Put, put_none, put_more, put_all}
 use Rattle.message_writing.proofs.put_exponents.Statement.{statement}
 use Rattle.message_writing.proofs.put_exponents.Tie as tie
 
-pub put-exponents-spec : {M : Type 1} → statement M
+pub put_exponents_spec : {M : Type 1} → statement M
 unfolding coefficient_bytes
-put-exponents-spec =
+put_exponents_spec =
     tie.close
     (tie.spec
     (λ out₀ at k a l₀ next₀ out l next. Put (λ i. two_bytes (coefficient a i)) 2 k at out₀ out next l)
@@ -21,6 +21,6 @@ put-exponents-spec =
     (λ c κs. omega arith)
     (λ c. omega arith)
     (λ c. omega arith)
-    (λ c. let turn = c.before.before.before.before.before in put_more turn.before.loop.invariant turn.loop-test.true c.before.before.put-number.ensures)
-    (λ c. c.before.loop.invariant.same)
-    (λ c. put_all c.before.loop.invariant c.loop-test.false))
+    (λ c. let turn = c.before.before.before.before.before in put_more turn.before.loop-l.invariant turn.loop-l-test.true c.before.before.put_number-next.ensures)
+    (λ c. c.before.loop-l.invariant.same)
+    (λ c. put_all c.before.loop-l.invariant c.loop-l-test.false))

@@ -14,10 +14,10 @@ returns c =
     let third = c.before.before.before.before.before.before.before in
     let second = third.before.before.before.before.before in
     let first = second.before.before.before.before in
-    puts_then (puts_then (puts_then first.put_byte.ensures second.put-number.ensures) third.put-byte2.ensures) c.before.before.put-number2.ensures
+    puts_then (puts_then (puts_then first.put_byte-second.ensures second.put_number-third.ensures) third.put_byte-fourth.ensures) c.before.before.put_number.ensures
 
-pub put-head-spec : {M : Type 1} → statement M
-put-head-spec =
+pub put_head_spec : {M : Type 1} → statement M
+put_head_spec =
     tie.close
     (found7 tie.spec (search rules)
     returns)

@@ -10,9 +10,9 @@ use Rattle.rules.specs.Messages.{two_bytes}
 use Rattle.message_writing.proofs.put_number.Statement.{statement}
 use Rattle.message_writing.proofs.put_number.Tie as tie
 
-pub put-number-spec : {M : Type 1} → statement M
+pub put_number_spec : {M : Type 1} → statement M
 unfolding two_bytes
-put-number-spec =
+put_number_spec =
     tie.close
     (found4 tie.spec (search rules)
     (λ c. simp length-set (omega arith))

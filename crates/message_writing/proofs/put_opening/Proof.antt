@@ -18,11 +18,11 @@ unfolding opening_bytes
 returns c =
     let k = c.before.before.before.before.before.before in
     let head = k.before.before.before.before.before in
-    let all = puts_then head.put-head.ensures (puts_then k.put_byte.ensures c.before.before.put-matrix.ensures) in
+    let all = puts_then head.put_head-second.ensures (puts_then k.put_byte-third.ensures c.before.before.put_matrix.ensures) in
     (puts_wide (omega arith) all, omega (arith, small head.before.before.before.before, all.place))
 
-pub put-opening-spec : {M : Type 1} → statement M
-put-opening-spec =
+pub put_opening_spec : {M : Type 1} → statement M
+put_opening_spec =
     tie.close
     (found3 (tie.spec
     (λ c. search rules)

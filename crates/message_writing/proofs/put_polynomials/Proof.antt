@@ -15,10 +15,10 @@ returns c =
     let second = third.before.before.before.before in
     let first = second.before.before.before.before in
     puts_wide (omega arith)
-    (puts_then (puts_then (puts_then first.put-exponents.ensures second.put-exponents2.ensures) third.put-exponents3.ensures) c.before.before.put-exponents4.ensures)
+    (puts_then (puts_then (puts_then first.put_exponents-second.ensures second.put_exponents-third.ensures) third.put_exponents-fourth.ensures) c.before.before.put_exponents.ensures)
 
-pub put-polynomials-spec : {M : Type 1} → statement M
-put-polynomials-spec =
+pub put_polynomials_spec : {M : Type 1} → statement M
+put_polynomials_spec =
     tie.close
     (found6 tie.spec (search rules)
     returns)

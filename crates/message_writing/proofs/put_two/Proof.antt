@@ -6,8 +6,8 @@ use Rattle.message_writing.specs.Laws.{puts_then}
 use Rattle.message_writing.proofs.put_two.Statement.{statement}
 use Rattle.message_writing.proofs.put_two.Tie as tie
 
-pub put-two-spec : {M : Type 1} → statement M
-put-two-spec =
+pub put_two_spec : {M : Type 1} → statement M
+put_two_spec =
     tie.close
     (found3 tie.spec (search rules)
-    (λ c. puts_then c.before.before.before.before.before.before.put-number.ensures c.before.before.put-number2.ensures))
+    (λ c. puts_then c.before.before.before.before.before.before.put_number-next.ensures c.before.before.put_number.ensures))

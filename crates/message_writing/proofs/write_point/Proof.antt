@@ -20,10 +20,10 @@ returns c =
     let four = given.args.four in
     let side = given.args.side in
     matrix_written u (saying side C four) C (said_tag u C four side ∙ sym opening.before.tag.ensures) (said_body u C four side) given.requires.0 (omega arith)
-    opening.put-opening.ensures.0 (puts_then first.put_two.ensures c.before.before.put-two2.ensures)
+    opening.put_opening-next.ensures.0 (puts_then first.put_two-next.ensures c.before.before.put_two.ensures)
 
-pub write-point-spec : {M : Type 1} → statement M
-write-point-spec =
+pub write_point_spec : {M : Type 1} → statement M
+write_point_spec =
     tie.close
     (found5 tie.spec (search rules)
     returns)

@@ -9,8 +9,8 @@ use Rattle.message_writing.specs.Laws.{Sent, sent_none, sent_room, sent_more, se
 use Rattle.message_writing.proofs.write_points.Statement.{statement}
 use Rattle.message_writing.proofs.write_points.Tie as tie
 
-pub write-points-spec : {M : Type 1} → statement M
-write-points-spec =
+pub write_points_spec : {M : Type 1} → statement M
+write_points_spec =
     tie.close
     (tie.spec
     (λ out₀ u side c fours n at₀ j₀ out at j. Sent u (λ i. saying side c (get_or fours i zero_four)) out₀ out at j)
@@ -22,10 +22,10 @@ write-points-spec =
     (λ c. omega arith)
     (λ c. omega arith)
     (λ c. omega arith)
-    (λ c κs. sent_room c.before.before.before.loop.invariant c.before.before.before.before.before.before.requires c.before.before.loop-test.true)
+    (λ c κs. sent_room c.before.before.before.loop-j.invariant c.before.before.before.before.before.before.requires c.before.before.loop-j-test.true)
     (λ c. omega arith)
     (λ c. omega arith)
     (λ c. omega arith)
-    (λ c. let turn = c.before.before.before.before.before in sent_more turn.before.loop.invariant turn.before.before.before.before.requires turn.loop-test.true c.before.before.write-point.ensures)
-    (λ c. c.before.loop.invariant.same)
-    (λ c. sent_all c.before.loop.invariant c.before.before.before.before.requires c.loop-test.false))
+    (λ c. let turn = c.before.before.before.before.before in sent_more turn.before.loop-j.invariant turn.before.before.before.before.requires turn.loop-j-test.true c.before.before.write_point-at.ensures)
+    (λ c. c.before.loop-j.invariant.same)
+    (λ c. sent_all c.before.loop-j.invariant c.before.before.before.before.requires c.loop-j-test.false))

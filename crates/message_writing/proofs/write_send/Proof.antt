@@ -15,10 +15,10 @@ returns c =
     let opening = c.before.before.before.before.before.before in
     let given = opening.before.before.before.before in
     matrix_written given.args.u (send given.args.c given.args.all) given.args.c refl refl given.requires.0 (omega arith)
-    opening.put-opening.ensures.0 c.before.before.put-polynomials.ensures
+    opening.put_opening-next.ensures.0 c.before.before.put_polynomials.ensures
 
-pub write-send-spec : {M : Type 1} → statement M
-write-send-spec =
+pub write_send_spec : {M : Type 1} → statement M
+write_send_spec =
     tie.close
     (found5 tie.spec (search rules)
     returns)

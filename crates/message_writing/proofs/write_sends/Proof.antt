@@ -9,8 +9,8 @@ use Rattle.message_writing.specs.Laws.{Sent, sent_none, sent_room, sent_more, se
 use Rattle.message_writing.proofs.write_sends.Statement.{statement}
 use Rattle.message_writing.proofs.write_sends.Tie as tie
 
-pub write-sends-spec : {M : Type 1} → statement M
-write-sends-spec =
+pub write_sends_spec : {M : Type 1} → statement M
+write_sends_spec =
     tie.close
     (tie.spec
     (λ out₀ u c all n at₀ j₀ out at j. Sent u (λ i. send c (get_or all i no_polynomials)) out₀ out at j)
@@ -22,10 +22,10 @@ write-sends-spec =
     (λ c. omega arith)
     (λ c. omega arith)
     (λ c. omega arith)
-    (λ c κs. sent_room c.before.before.before.loop.invariant c.before.before.before.before.before.before.requires c.before.before.loop-test.true)
+    (λ c κs. sent_room c.before.before.before.loop-j.invariant c.before.before.before.before.before.before.requires c.before.before.loop-j-test.true)
     (λ c. omega arith)
     (λ c. omega arith)
     (λ c. omega arith)
-    (λ c. let turn = c.before.before.before.before.before in sent_more turn.before.loop.invariant turn.before.before.before.before.requires turn.loop-test.true c.before.before.write-send.ensures)
-    (λ c. c.before.loop.invariant.same)
-    (λ c. sent_all c.before.loop.invariant c.before.before.before.before.requires c.loop-test.false))
+    (λ c. let turn = c.before.before.before.before.before in sent_more turn.before.loop-j.invariant turn.before.before.before.before.requires turn.loop-j-test.true c.before.before.write_send-at.ensures)
+    (λ c. c.before.loop-j.invariant.same)
+    (λ c. sent_all c.before.loop-j.invariant c.before.before.before.before.requires c.loop-j-test.false))

@@ -15,10 +15,10 @@ returns c =
     let head = c.before.before.before.before.before.before in
     let given = head.before.before.before in
     message_written given.args.u (recovery given.args.pair) 7 refl refl given.requires.0 refl (omega arith)
-    (puts_then head.put-head.ensures c.before.before.put_two.ensures)
+    (puts_then head.put_head-next.ensures c.before.before.put_two.ensures)
 
-pub write-share-spec : {M : Type 1} → statement M
-write-share-spec =
+pub write_share_spec : {M : Type 1} → statement M
+write_share_spec =
     tie.close
     (found3 tie.spec (search rules)
     returns)

@@ -7,8 +7,8 @@ use Rattle.message_writing.specs.Laws.{Sent, sent_none, sent_room, sent_more, se
 use Rattle.message_writing.proofs.write_shares.Statement.{statement}
 use Rattle.message_writing.proofs.write_shares.Tie as tie
 
-pub write-shares-spec : {M : Type 1} → statement M
-write-shares-spec =
+pub write_shares_spec : {M : Type 1} → statement M
+write_shares_spec =
     tie.close
     (tie.spec
     (λ out₀ u pair n at₀ j₀ out at j. Sent u (λ i. recovery pair) out₀ out at j)
@@ -18,10 +18,10 @@ write-shares-spec =
     (λ c. omega arith)
     (λ c. omega arith)
     (λ c. omega arith)
-    (λ c κs. sent_room c.before.before.loop.invariant c.before.before.before.before.before.requires c.before.loop-test.true)
+    (λ c κs. sent_room c.before.before.loop-j.invariant c.before.before.before.before.before.requires c.before.loop-j-test.true)
     (λ c. omega arith)
     (λ c. omega arith)
     (λ c. omega arith)
-    (λ c. let turn = c.before.before.before.before in sent_more turn.before.loop.invariant turn.before.before.before.before.requires turn.loop-test.true c.before.before.write-share.ensures)
-    (λ c. c.before.loop.invariant.same)
-    (λ c. sent_all c.before.loop.invariant c.before.before.before.before.requires c.loop-test.false))
+    (λ c. let turn = c.before.before.before.before in sent_more turn.before.loop-j.invariant turn.before.before.before.before.requires turn.loop-j-test.true c.before.before.write_share-at.ensures)
+    (λ c. c.before.loop-j.invariant.same)
+    (λ c. sent_all c.before.loop-j.invariant c.before.before.before.before.requires c.loop-j-test.false))

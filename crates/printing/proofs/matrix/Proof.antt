@@ -5,5 +5,5 @@ use Rattle.folds.specs.Found.{found11}
 use Rattle.printing.proofs.matrix.Statement.{statement}
 use Rattle.printing.proofs.matrix.Tie as tie
 
-pub matrix-spec : {M : Type 1} → statement M
-matrix-spec = tie.close (found11 (tie.spec (λ between k c m₀ m. m ≤ 64) (λ between k c m₀ m. 64 - m)) (search rules))
+pub matrix_spec : {M : Type 1} → statement M
+matrix_spec = tie.close (found11 (tie.spec (λ between k c m₀ m. m ≤ 64) (λ between k c m₀ m. 64 - m)) (search rules))

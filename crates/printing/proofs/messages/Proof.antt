@@ -5,5 +5,5 @@ use Rattle.folds.specs.Found.{found16}
 use Rattle.printing.proofs.messages.Statement.{statement}
 use Rattle.printing.proofs.messages.Tie as tie
 
-pub messages-spec : {M : Type 1} → statement M
-messages-spec = tie.close (found16 (tie.spec (λ n bytes out size at₀ j₀ at j. (at ≤ bytes) × (j ≤ at)) (λ n bytes out size at₀ j₀ at j. bytes - at)) (search rules))
+pub messages_spec : {M : Type 1} → statement M
+messages_spec = tie.close (found16 (tie.spec (λ n bytes out size at₀ j₀ at j. (at ≤ bytes) × (j ≤ at)) (λ n bytes out size at₀ j₀ at j. bytes - at)) (search rules))

@@ -29,38 +29,38 @@ tested k slots s i C b u e h =
     rw (u, agree_comm k (matrix_of (slot_in slots s)) (matrix_of (slot_in slots i)))
     (ap not (sym (h ∙ ap (λ (D : List (List Element)). has_matrix k D (slot_in slots i)) e)))
 
-abbrev invariant-loop : tie.invariant-loop
-invariant-loop k s slots c below₀ below = all_below below (differs k slots s) ≡ true
+abbrev invariant-loop-below : tie.invariant-loop-below
+invariant-loop-below k s slots c below₀ below = all_below below (differs k slots s) ≡ true
 
-abbrev decreases-loop : tie.decreases-loop
-decreases-loop k s slots c below₀ below = s - below
+abbrev decreases-loop-below : tie.decreases-loop-below
+decreases-loop-below k s slots c below₀ below = s - below
 
-test : (c : tie.After-has-matrix invariant-loop decreases-loop)
+test : (c : tie.After-has_matrix invariant-loop-below decreases-loop-below)
     → let head = c.before.before.before in
     let a = head.before.before.before.before.args in
-    differs a.k a.t2 a.s head.loop.below ≡ not c.has-matrix.result
+    differs a.k a.t2 a.s head.loop-below.below ≡ not c.has_matrix.result
 unfolding matrix_of
 test c =
     let read = c.before.before.before.before in
     let start = read.before.before.before in
     let a = start.args in
-    tested a.k a.t2 a.s _ _ _ start.requires.used read.matrix-of.ensures c.has-matrix.ensures
+    tested a.k a.t2 a.s _ _ _ start.requires.used read.matrix_of-c.ensures c.has_matrix.ensures
 
-returns : tie.Need-returns invariant-loop decreases-loop
+returns : tie.Need-returns-then-has_matrix invariant-loop-below decreases-loop-below
 unfolding differ_from
-returns c = all_fails _ _ _ c.before.before.before.loop-test.true (test c.before ∙ ap not c.if1.true)
+returns c = all_fails _ _ _ c.before.before.before.loop-below-test.true (test c.before ∙ ap not c.if-has_matrix.true)
 
-loop-again : tie.Need-loop-preserved invariant-loop decreases-loop
-loop-again c = all_below_more _ _ c.before.before.before.before.loop.invariant (test c.before ∙ ap not c.if1.false)
+loop-again : tie.Need-loop-below-preserved invariant-loop-below decreases-loop-below
+loop-again c = all_below_more _ _ c.before.before.before.before.loop-below.invariant (test c.before ∙ ap not c.if-has_matrix.false)
 
-returns-2 : tie.Need-returns-2 invariant-loop decreases-loop
+returns-2 : tie.Need-returns invariant-loop-below decreases-loop-below
 unfolding differ_from
-returns-2 c = all_passed _ _ _ c.loop-test.false c.before.loop.invariant
+returns-2 c = all_passed _ _ _ c.loop-below-test.false c.before.loop-below.invariant
 
-pub differs-below-spec : {M : Type 1} → statement M
-differs-below-spec =
+pub differs_below_spec : {M : Type 1} → statement M
+differs_below_spec =
     tie.close
-    (found3 (found3 (tie.spec invariant-loop decreases-loop) (search rules) (λ c. all_below-zero _)) (search rules)
+    (found3 (found3 (tie.spec invariant-loop-below decreases-loop-below) (search rules) (λ c. all_below-zero _)) (search rules)
     returns
     (λ c. search rules)
     (λ c. search rules)

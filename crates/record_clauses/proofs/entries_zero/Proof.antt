@@ -42,44 +42,44 @@ row_read k slot j =
     ap₂ ◌or◌ (before-column slot.used (ltb j k) k l)
     (ap (λ (r : List Element). eqb (get_or r l (element 0)).0 0) (sym (get_or-map row_at slot.rows j no_row))))
 
-abbrev invariant-loop : tie.invariant-loop
-invariant-loop k slot j₀ j = all_below j (rowPasses k slot) ≡ true
+abbrev invariant-loop-j : tie.invariant-loop-j
+invariant-loop-j k slot j₀ j = all_below j (rowPasses k slot) ≡ true
 
-abbrev decreases-loop : tie.decreases-loop
-decreases-loop k slot j₀ j = 8 - j
+abbrev decreases-loop-j : tie.decreases-loop-j
+decreases-loop-j k slot j₀ j = 8 - j
 
 -- the code's test of a row
-tested : (c : tie.After-zero-from invariant-loop decreases-loop)
+tested : (c : tie.After-zero_from invariant-loop-j decreases-loop-j)
     → let head = c.before.before.before.before.before in
-    c.zero-from.result ≡ rowPasses head.before.args.k head.before.args.t2 head.loop.j
+    c.zero_from.result ≡ rowPasses head.before.args.k head.before.args.t2 head.loop-j.j
 tested c =
     let met = c.before in
     let head = met.before.before.before.before in
     let k = head.before.args.k in
     let slot = head.before.args.t2 in
-    let j = head.loop.j in
-    let column : met.if1.column ≡ columnOf k slot j =
+    let j = head.loop-j.j in
+    let column : met.if-slot.column ≡ columnOf k slot j =
     ⊎_elim
     (λ w. let low : ltb j k ≡ true = w.1.taken in rw (w.0.taken, low) w.2)
     (λ w. ⊎_elim (λ v. let high : ltb j k ≡ false = v.1.left in rw (v.0.taken, high) w.1) (λ v. rw v.left w.1) w.0.came)
-    met.if1.branch in
-    (rw column at c.zero-from.ensures) ∙ row_read k slot j
+    met.if-slot.branch in
+    (rw column at c.zero_from.ensures) ∙ row_read k slot j
 
-returns : tie.Need-returns invariant-loop decreases-loop
+returns : tie.Need-returns-then-not-zero_from invariant-loop-j decreases-loop-j
 unfolding entries_zero
-returns c = let turn = c.before.before.before.before in all_fails _ _ _ turn.before.loop-test.true (failed (tested c.before) c.if3.true)
+returns c = let turn = c.before.before.before.before in all_fails _ _ _ turn.before.loop-j-test.true (failed (tested c.before) c.if-not-zero_from.true)
 
-loop-again : tie.Need-loop-preserved invariant-loop decreases-loop
-loop-again c = let turn = c.before.before.before.before in all_below_more _ _ turn.before.before.loop.invariant (passed (tested c.before) c.if3.false)
+loop-again : tie.Need-loop-j-preserved invariant-loop-j decreases-loop-j
+loop-again c = let turn = c.before.before.before.before in all_below_more _ _ turn.before.before.loop-j.invariant (passed (tested c.before) c.if-not-zero_from.false)
 
-returns-2 : tie.Need-returns-2 invariant-loop decreases-loop
+returns-2 : tie.Need-returns invariant-loop-j decreases-loop-j
 unfolding entries_zero
-returns-2 c = all_passed _ _ _ c.loop-test.false c.before.loop.invariant
+returns-2 c = all_passed _ _ _ c.loop-j-test.false c.before.loop-j.invariant
 
-pub entries-zero-spec : {M : Type 1} → statement M
-entries-zero-spec =
+pub entries_zero_spec : {M : Type 1} → statement M
+entries_zero_spec =
     tie.close
-    (found3 (tie.spec invariant-loop decreases-loop (λ c. all_below-zero _)) (search rules)
+    (found3 (tie.spec invariant-loop-j decreases-loop-j (λ c. all_below-zero _)) (search rules)
     returns
     (λ c. search rules)
     (λ c. search rules)

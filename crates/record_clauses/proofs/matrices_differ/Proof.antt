@@ -15,39 +15,39 @@ use Rattle.record_clauses.specs.Clauses.{differ_from, all_differ}
 use Rattle.record_clauses.proofs.matrices_differ.Statement.{statement}
 use Rattle.record_clauses.proofs.matrices_differ.Tie as tie
 
-abbrev invariant-loop : tie.invariant-loop
-invariant-loop k slots s₀ s = all_below s (differ_from k slots) ≡ true
+abbrev invariant-loop-s : tie.invariant-loop-s
+invariant-loop-s k slots s₀ s = all_below s (differ_from k slots) ≡ true
 
-abbrev decreases-loop : tie.decreases-loop
-decreases-loop k slots s₀ s = 20 - s
+abbrev decreases-loop-s : tie.decreases-loop-s
+decreases-loop-s k slots s₀ s = 20 - s
 
 unused-differs : (k : ℕ) (slots : List Slot) (s : ℕ) → (slot_in slots s).used ≡ false → differ_from k slots s ≡ true
 unfolding differ_from
 unused-differs k slots s h = all_below_all _ s (λ i l. rw h)
 
-returns : tie.Need-returns invariant-loop decreases-loop
+returns : tie.Need-returns-then-not-differs_below invariant-loop-s decreases-loop-s
 unfolding all_differ
-returns c = all_fails _ _ _ c.before.before.before.before.loop-test.true (failed c.before.differs-below.ensures c.if2.true)
+returns c = all_fails _ _ _ c.before.before.before.before.loop-s-test.true (failed c.before.differs_below.ensures c.if-not-differs_below.true)
 
-loop-again : tie.Need-loop-preserved invariant-loop decreases-loop
+loop-again : tie.Need-loop-s-preserved invariant-loop-s decreases-loop-s
 loop-again c =
-    all_below_more _ _ c.before.before.before.loop.invariant
-    (⊎_elim (λ w. passed w.1.ensures w.2.left) (λ w. unused-differs _ _ _ w.left) c.if1.branch)
+    all_below_more _ _ c.before.before.before.loop-s.invariant
+    (⊎_elim (λ w. passed w.1.ensures w.2.left) (λ w. unused-differs _ _ _ w.left) c.if-slot.branch)
 
-returns-2 : tie.Need-returns-2 invariant-loop decreases-loop
+returns-2 : tie.Need-returns invariant-loop-s decreases-loop-s
 unfolding all_differ
-returns-2 c = all_passed _ _ _ c.loop-test.false c.before.loop.invariant
+returns-2 c = all_passed _ _ _ c.loop-s-test.false c.before.loop-s.invariant
 
-pub matrices-differ-spec : {M : Type 1} → statement M
-matrices-differ-spec =
+pub matrices_differ_spec : {M : Type 1} → statement M
+matrices_differ_spec =
     tie.close
     (tie.spec
-    invariant-loop
-    decreases-loop
+    invariant-loop-s
+    decreases-loop-s
     (λ c. all_below-zero _)
     (λ c. search rules)
     (λ c. search rules)
-    (λ c κs. record { high = c.before.before.before.before.requires; place = c.before.before.loop-test.true; used = c.if1.true })
+    (λ c κs. record { high = c.before.before.before.before.requires; place = c.before.before.loop-s-test.true; used = c.if-slot.true })
     returns
     (λ c. search rules)
     (λ c. search rules)

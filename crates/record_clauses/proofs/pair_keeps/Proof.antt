@@ -22,8 +22,8 @@ returns c =
     let a = counted.before.before.before.before.before.args in
     let u = a.u in
     let slot = a.slot in
-    let asked = ap₂ leb counted.before.echo-quorum.ensures counted.count-marks.ensures in
-    let enough : met.if1.enough ≡ (leb (echo_quorum u) (count_e slot) or leb u.k (count_r slot)) =
+    let asked = ap₂ leb counted.before.echo_quorum.ensures counted.count_marks.ensures in
+    let enough : met.if-echo_quorum-count_marks.enough ≡ (leb (echo_quorum u) (count_e slot) or leb u.k (count_r slot)) =
     ⊎_elim
     (λ w.
     let yes = le-leb _ _ w.0.taken in
@@ -32,11 +32,11 @@ returns c =
     (λ w.
     let e : leb (echo_quorum u) (count_e slot) ≡ false = sym asked ∙ lt-leb _ _ w.0.left in
     rw e (w.3 ∙ ap (leb u.k) w.1.ensures))
-    met.if1.branch in
-    beq_same c.is-there.result met.if1.enough ∙ ap₂ same c.is-there.ensures enough
+    met.if-echo_quorum-count_marks.branch in
+    beq_same c.is_there.result met.if-echo_quorum-count_marks.enough ∙ ap₂ same c.is_there.ensures enough
 
-pub pair-keeps-spec : {M : Type 1} → statement M
-pair-keeps-spec =
+pub pair_keeps_spec : {M : Type 1} → statement M
+pair_keeps_spec =
     tie.close
     (found3 (tie.spec (λ c κs. (omega arith, omega arith))) (search rules)
     returns)

@@ -9,19 +9,19 @@ use Rattle.record_clauses.specs.Clauses.{passes_in}
 use Rattle.record_clauses.proofs.passes_in.Statement.{statement}
 use Rattle.record_clauses.proofs.passes_in.Tie as tie
 
-returns : tie.Need-returns
+returns : tie.Need-returns-then-not-slot
 unfolding passes_in
 returns c =
-    let unused : c.before.before.args.slot.used ≡ false = not-true _ c.if1.true in
+    let unused : c.before.before.args.slot.used ≡ false = not-true _ c.if-not-slot.true in
     rw unused
 
-returns-2 : tie.Need-returns-2
+returns-2 : tie.Need-returns
 unfolding passes_in matrix_of
 returns-2 c =
     let used = c.before.before.before in
     let a = used.before.before.args in
-    let in_use_lem : a.slot.used ≡ true = not-false _ used.if1.false in
-    rw in_use_lem (c.matrix-passes.ensures ∙ ap (matrix_passes a.group a.k) c.before.matrix-of.ensures)
+    let in_use_lem : a.slot.used ≡ true = not-false _ used.if-not-slot.false in
+    rw in_use_lem (c.matrix_passes.ensures ∙ ap (matrix_passes a.group a.k) c.before.matrix_of-c.ensures)
 
-pub passes-in-spec : {M : Type 1} → statement M
-passes-in-spec = tie.close (tie.spec returns (λ c κs. search rules) (λ c κs. search rules) returns-2)
+pub passes_in_spec : {M : Type 1} → statement M
+passes_in_spec = tie.close (tie.spec returns (λ c κs. search rules) (λ c κs. search rules) returns-2)

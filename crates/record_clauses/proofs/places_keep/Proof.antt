@@ -15,41 +15,41 @@ use Rattle.record_clauses.proofs.places_keep.Statement.{statement}
 use Rattle.record_clauses.proofs.places_keep.Tie as tie
 
 abbrev keeps : Slot → ℕ → Bool
-keeps slot m = same (held slot m) (marked slot.echoed m or marked slot.readied m)
+keeps slot m = same (held slot m) (marked slot.echoed-1 m or marked slot.readied-1 m)
 
-abbrev invariant-loop : tie.invariant-loop
-invariant-loop slot echoed readied m₀ m = all_below m (keeps slot) ≡ true
+abbrev invariant-loop-m : tie.invariant-loop-m
+invariant-loop-m slot echoed readied m₀ m = all_below m (keeps slot) ≡ true
 
-abbrev decreases-loop : tie.decreases-loop
-decreases-loop slot echoed readied m₀ m = 10 - m
+abbrev decreases-loop-m : tie.decreases-loop-m
+decreases-loop-m slot echoed readied m₀ m = 10 - m
 
 -- the code's test of a place
-tested : (c : tie.After-is-held invariant-loop decreases-loop)
+tested : (c : tie.After-is_held invariant-loop-m decreases-loop-m)
     → let head = c.before.before.before.before.before in
-    beq c.is_held_lem.result c.before.if1.marked ≡ keeps head.before.before.before.args.t1 head.loop.m
+    beq c.is_held.result c.before.if-echoed-m.marked ≡ keeps head.before.before.before.args.t1 head.loop-m.m
 tested c =
     let met = c.before in
     let head = met.before.before.before.before in
     let slot = head.before.before.before.args.t1 in
-    let either : met.if1.marked ≡ (marked slot.echoed head.loop.m or marked slot.readied head.loop.m) =
-    ⊎_elim (λ w. rw w.0.taken (w.1 ∙ w.0.taken)) (λ w. rw w.0.left w.2) met.if1.branch in
-    beq_same c.is_held_lem.result met.if1.marked ∙ ap₂ same c.is_held_lem.ensures either
+    let either : met.if-echoed-m.marked ≡ (marked slot.echoed-1 head.loop-m.m or marked slot.readied-1 head.loop-m.m) =
+    ⊎_elim (λ w. rw w.0.taken (w.1 ∙ w.0.taken)) (λ w. rw w.0.left w.2) met.if-echoed-m.branch in
+    beq_same c.is_held.result met.if-echoed-m.marked ∙ ap₂ same c.is_held.ensures either
 
-returns : tie.Need-returns invariant-loop decreases-loop
+returns : tie.Need-returns-then-is_held-marked invariant-loop-m decreases-loop-m
 unfolding places_keep
-returns c = let turn = c.before.before.before.before in all_fails _ _ _ turn.before.loop-test.true (failed (tested c.before) c.if2.true)
+returns c = let turn = c.before.before.before.before in all_fails _ _ _ turn.before.loop-m-test.true (failed (tested c.before) c.if-is_held-marked.true)
 
-loop-again : tie.Need-loop-preserved invariant-loop decreases-loop
-loop-again c = let turn = c.before.before.before.before in all_below_more _ _ turn.before.before.loop.invariant (passed (tested c.before) c.if2.false)
+loop-again : tie.Need-loop-m-preserved invariant-loop-m decreases-loop-m
+loop-again c = let turn = c.before.before.before.before in all_below_more _ _ turn.before.before.loop-m.invariant (passed (tested c.before) c.if-is_held-marked.false)
 
-returns-2 : tie.Need-returns-2 invariant-loop decreases-loop
+returns-2 : tie.Need-returns invariant-loop-m decreases-loop-m
 unfolding places_keep
-returns-2 c = all_passed _ _ _ c.loop-test.false c.before.loop.invariant
+returns-2 c = all_passed _ _ _ c.loop-m-test.false c.before.loop-m.invariant
 
-pub places-keep-spec : {M : Type 1} → statement M
-places-keep-spec =
+pub places_keep_spec : {M : Type 1} → statement M
+places_keep_spec =
     tie.close
-    (found5 (tie.spec invariant-loop decreases-loop (λ c. all_below-zero _)) (search rules)
+    (found5 (tie.spec invariant-loop-m decreases-loop-m (λ c. all_below-zero _)) (search rules)
     returns
     (λ c. search rules)
     (λ c. search rules)

@@ -3,12 +3,12 @@ use borrow.Author.Rules.{rules}
 use Rattle.record_clauses.proofs.point_below.Statement.{statement}
 use Rattle.record_clauses.proofs.point_below.Tie as tie
 
-pub point-below-spec : {M : Type 1} → statement M
-point-below-spec =
+pub point_below_spec : {M : Type 1} → statement M
+point_below_spec =
     tie.close
     (tie.spec
     (λ c. search rules)
     (λ c. search rules)
     (λ c κs. search rules)
     (λ c. search rules)
-    (λ c. rw c.before.before.point.given.1 c.four_below.ensures))
+    (λ c. rw c.before.before.point-1.given.1 c.four_below_lem.ensures))

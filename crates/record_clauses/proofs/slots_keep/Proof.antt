@@ -12,29 +12,29 @@ use Rattle.record_clauses.specs.Clauses.{slot_keeps, every_slot}
 use Rattle.record_clauses.proofs.slots_keep.Statement.{statement}
 use Rattle.record_clauses.proofs.slots_keep.Tie as tie
 
-abbrev invariant-loop : tie.invariant-loop
-invariant-loop group u slots s₀ s = all_below s (λ i. slot_keeps group u (slot_in slots i)) ≡ true
+abbrev invariant-loop-s : tie.invariant-loop-s
+invariant-loop-s group u slots s₀ s = all_below s (λ i. slot_keeps group u (slot_in slots i)) ≡ true
 
-abbrev decreases-loop : tie.decreases-loop
-decreases-loop group u slots s₀ s = 20 - s
+abbrev decreases-loop-s : tie.decreases-loop-s
+decreases-loop-s group u slots s₀ s = 20 - s
 
-returns : tie.Need-returns invariant-loop decreases-loop
+returns : tie.Need-returns-then-not-slot_keeps invariant-loop-s decreases-loop-s
 unfolding every_slot
-returns c = all_fails _ _ _ c.before.before.before.loop-test.true (failed c.before.slot-keeps.ensures c.if1.true)
+returns c = all_fails _ _ _ c.before.before.before.loop-s-test.true (failed c.before.slot_keeps.ensures c.if-not-slot_keeps.true)
 
-loop-again : tie.Need-loop-preserved invariant-loop decreases-loop
-loop-again c = all_below_more _ _ c.before.before.before.before.loop.invariant (passed c.before.slot-keeps.ensures c.if1.false)
+loop-again : tie.Need-loop-s-preserved invariant-loop-s decreases-loop-s
+loop-again c = all_below_more _ _ c.before.before.before.before.loop-s.invariant (passed c.before.slot_keeps.ensures c.if-not-slot_keeps.false)
 
-returns-2 : tie.Need-returns-2 invariant-loop decreases-loop
+returns-2 : tie.Need-returns invariant-loop-s decreases-loop-s
 unfolding every_slot
-returns-2 c = all_passed _ _ _ c.loop-test.false c.before.loop.invariant
+returns-2 c = all_passed _ _ _ c.loop-s-test.false c.before.loop-s.invariant
 
-pub slots-keep-spec : {M : Type 1} → statement M
-slots-keep-spec =
+pub slots_keep_spec : {M : Type 1} → statement M
+slots_keep_spec =
     tie.close
     (tie.spec
-    invariant-loop
-    decreases-loop
+    invariant-loop-s
+    decreases-loop-s
     (λ c. all_below-zero _)
     (λ c. search rules)
     (λ c. search rules)

@@ -13,5 +13,5 @@ returns c =
     let used = c.before.before.args.slot.used in
     beq_same used c.before.any_held.result ∙ ap (same used) c.before.any_held.ensures
 
-pub use-keeps-spec : {M : Type 1} → statement M
-use-keeps-spec = tie.close (tie.spec (λ c κs. search rules) returns)
+pub use_keeps_spec : {M : Type 1} → statement M
+use_keeps_spec = tie.close (tie.spec (λ c κs. search rules) returns)

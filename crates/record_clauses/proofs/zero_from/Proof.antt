@@ -21,39 +21,39 @@ use Rattle.record_clauses.proofs.zero_from.Tie as tie
 abbrev passes : ℕ → List Element → ℕ → Bool
 passes column at l = ltb l column or eqb (get_or at l (element 0)).0 0
 
-abbrev invariant-loop : tie.invariant-loop
-invariant-loop column at l₀ l = (column ≤ l) × (all_below l (passes column at) ≡ true)
+abbrev invariant-loop-l : tie.invariant-loop-l
+invariant-loop-l column at l₀ l = (column ≤ l) × (all_below l (passes column at) ≡ true)
 
-abbrev decreases-loop : tie.decreases-loop
-decreases-loop column at l₀ l = 8 - l
+abbrev decreases-loop-l : tie.decreases-loop-l
+decreases-loop-l column at l₀ l = 8 - l
 
-loop-holds : tie.Need-loop-init invariant-loop decreases-loop
+loop-holds : tie.Need-loop-l-init invariant-loop-l decreases-loop-l
 loop-holds c = (omega arith, all_below_all _ _ (λ i l. rw (lt-ltb i _ l)))
 
-returns : tie.Need-returns invariant-loop decreases-loop
+returns : tie.Need-returns-then-e-ne0 invariant-loop-l decreases-loop-l
 unfolding zero_from
 returns c =
     let turn = c.before.before.before in
     let head = turn.before in
     let column = head.before.args.column in
-    all_fails (passes column head.before.args.t2) 8 head.loop.l turn.loop-test.true
-    (rw (le-ltb head.loop.l column head.loop.invariant.0, ne_eqb _ 0 c.if1.true))
+    all_fails (passes column head.before.args.t2) 8 head.loop-l.l turn.loop-l-test.true
+    (rw (le-ltb head.loop-l.l column head.loop-l.invariant.0, ne_eqb _ 0 c.if-e-ne0.true))
 
-loop-again : tie.Need-loop-preserved invariant-loop decreases-loop
+loop-again : tie.Need-loop-l-preserved invariant-loop-l decreases-loop-l
 loop-again c =
     let head = c.before.before.before.before in
-    (omega arith, all_below_more _ _ head.loop.invariant.1 (or_right (ltb head.loop.l head.before.args.column) _ (eq-eqb _ 0 c.if1.false)))
+    (omega arith, all_below_more _ _ head.loop-l.invariant.1 (or_right (ltb head.loop-l.l head.before.args.column) _ (eq-eqb _ 0 c.if-e-ne0.false)))
 
-returns-2 : tie.Need-returns-2 invariant-loop decreases-loop
+returns-2 : tie.Need-returns invariant-loop-l decreases-loop-l
 unfolding zero_from
-returns-2 c = all_passed _ _ _ c.loop-test.false c.before.loop.invariant.1
+returns-2 c = all_passed _ _ _ c.loop-l-test.false c.before.loop-l.invariant.1
 
-pub zero-from-spec : {M : Type 1} → statement M
-zero-from-spec =
+pub zero_from_spec : {M : Type 1} → statement M
+zero_from_spec =
     tie.close
     (tie.spec
-    invariant-loop
-    decreases-loop
+    invariant-loop-l
+    decreases-loop-l
     loop-holds
     (λ c. search rules)
     (λ c. search rules)

@@ -11,58 +11,58 @@ use Rattle.folds.specs.Loops.{Filling, filling_none, filling_more, filling_all}
 use Rattle.rules.specs.Matrices.{zero_four, to_boxes}
 use Rattle.interpolation.specs.Points.{said_by}
 use Rattle.interpolation.specs.Lagrange.{four_through, Sides}
-use Rattle.record_points.proofs.Values.{side-fit, pair-ready, four-ready, sides-ready}
+use Rattle.record_points.proofs.Values.{side_fit, pair_ready, four_ready, sides_ready}
 use Rattle.record_points.proofs.ready_from.Statement.{statement}
 use Rattle.record_points.proofs.ready_from.Tie as tie
 
-abbrev invariant-loop : tie.invariant-loop
-invariant-loop q k n rows columns inverse pair fours₀ j₀ number₀ fours j number =
+abbrev invariant-loop-j : tie.invariant-loop-j
+invariant-loop-j q k n rows columns inverse pair fours₀ j₀ number₀ fours j number =
     (number ≡ j + 1) × Filling (λ l. four_through q (said_by rows) (said_by columns) (l + 1)) (replicate 10 zero_four) n j fours
 
-abbrev decreases-loop : tie.decreases-loop
-decreases-loop q k n rows columns inverse pair fours₀ j₀ number₀ fours j number = n - j
+abbrev decreases-loop-j : tie.decreases-loop-j
+decreases-loop-j q k n rows columns inverse pair fours₀ j₀ number₀ fours j number = n - j
 
 -- both sides, with the inverses of one
-sides : (c : tie.After-inverses invariant-loop decreases-loop)
-    → Sides c.before.before.before.args.q c.before.before.points-held.result c.before.points-held2.result c.inverses.result
+sides : (c : tie.After-inverses-inverse invariant-loop-j decreases-loop-j)
+    → Sides c.before.before.before.args.q c.before.before.points_held-rows.result c.before.points_held-columns.result c.inverses-inverse.result
 sides c =
     let start = c.before.before.before in
-    sides-ready start.args.q start.args.k start.requires.0 start.args.places _ _ _
-    c.before.before.points-held.ensures
-    c.before.points-held2.ensures
-    c.inverses.ensures
+    sides_ready start.args.q start.args.k start.requires.0 start.args.places _ _ _
+    c.before.before.points_held-rows.ensures
+    c.before.points_held-columns.ensures
+    c.inverses-inverse.ensures
 
-inverses-requires : tie.Need-inverses-requires invariant-loop decreases-loop
+inverses-requires : tie.Need-inverses-inverse-requires invariant-loop-j decreases-loop-j
 inverses-requires c κs =
     let start = c.before.before in
-    rw c.before.points-held.ensures (side-fit _ _ start.requires.0 start.args.places _)
+    rw c.before.points_held-rows.ensures (side_fit _ _ start.requires.0 start.args.places _)
 
-loop-again : tie.Need-loop-preserved invariant-loop decreases-loop
+loop-again : tie.Need-loop-j-preserved invariant-loop-j decreases-loop-j
 loop-again c =
     let turn = c.before in
-    let inv = turn.before.loop.invariant in
-    (omega arith, filling_more inv.1 turn.loop-test.true (rw inv.0 at c.four-at.ensures))
+    let inv = turn.before.loop-j.invariant in
+    (omega arith, filling_more inv.1 turn.loop-j-test.true (rw inv.0 at c.four_at-four.ensures))
 
-returns : tie.Need-returns invariant-loop decreases-loop
+returns : tie.Need-returns invariant-loop-j decreases-loop-j
 unfolding to_boxes
 returns c =
     let made = c.before.before in
     let both = made.before.before in
     let start = both.before.before in
     let a = start.args in
-    let rows = both.before.points-held.ensures in
-    let ready = four-ready a.q a.k start.requires.0 a.places in (
-      (rw rows at made.pair-at.ensures) ∙ pair-ready a.q a.k start.requires.0 a.places,
-      filling_all c.before.loop.invariant.1 c.loop-test.false
-          ∙ stores_same _ _ _ a.n (λ j l. rw (rows, both.points-held2.ensures) (ready (j + 1))),
+    let rows = both.before.points_held-rows.ensures in
+    let ready = four_ready a.q a.k start.requires.0 a.places in (
+      (rw rows at made.pair_at-pair.ensures) ∙ pair_ready a.q a.k start.requires.0 a.places,
+      filling_all c.before.loop-j.invariant.1 c.loop-j-test.false
+          ∙ stores_same _ _ _ a.n (λ j l. rw (rows, both.points_held-columns.ensures) (ready (j + 1))),
     )
 
-pub ready-from-spec : {M : Type 1} → statement M
-ready-from-spec =
+pub ready_from_spec : {M : Type 1} → statement M
+ready_from_spec =
     tie.close
     (found5 (tie.spec
-    invariant-loop
-    decreases-loop
+    invariant-loop-j
+    decreases-loop-j
     (λ c κs. search rules)
     (λ c κs. search rules)
     inverses-requires

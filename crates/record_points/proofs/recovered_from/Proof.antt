@@ -6,7 +6,7 @@ use Rattle.record_points.proofs.Values.{kept_fit, kept_said}
 use Rattle.record_points.proofs.recovered_from.Statement.{statement}
 use Rattle.record_points.proofs.recovered_from.Tie as tie
 
-fit : (c : tie.After-points-kept) → Fit c.before.args.q c.Points-kept.result
+fit : (c : tie.After-points_kept-all) → Fit c.before.args.q c.Points-kept.result
 fit c =
     let start = c.before in
     rw c.Points-kept.ensures (kept_fit _ _ start.requires start.args.keeps)
@@ -16,13 +16,13 @@ unfolding recovered_from pair_through
 returns c =
     let found = c.before.before in
     let start = found.before in
-    rw (found.Points-kept.ensures, kept_said _ _ start.requires start.args.keeps) at c.pair-at.ensures
+    rw (found.Points-kept.ensures, kept_said _ _ start.requires start.args.keeps) at c.pair_at.ensures
 
-pub recovered-from-spec : {M : Type 1} → statement M
-recovered-from-spec =
+pub recovered_from_spec : {M : Type 1} → statement M
+recovered_from_spec =
     tie.close
     (tie.spec
     (λ c κs. search rules)
     (λ c κs. fit c)
-    (λ c κs. record { fit = fit c.before; inverses = c.inverses.ensures })
+    (λ c κs. record { fit = fit c.before; inverses = c.inverses-inverse.ensures })
     returns)

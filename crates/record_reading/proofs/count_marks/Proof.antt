@@ -10,31 +10,31 @@ use Rattle.record_reading.specs.Slots.{count_marks}
 use Rattle.record_reading.proofs.count_marks.Statement.{statement}
 use Rattle.record_reading.proofs.count_marks.Tie as tie
 
-abbrev invariant-loop : tie.invariant-loop
-invariant-loop marks n₀ m₀ n m = Counted (marked marks) 10 m n
+abbrev invariant-loop-m : tie.invariant-loop-m
+invariant-loop-m marks n₀ m₀ n m = Counted (marked marks) 10 m n
 
-abbrev decreases-loop : tie.decreases-loop
-decreases-loop marks n₀ m₀ n m = 10 - m
+abbrev decreases-loop-m : tie.decreases-loop-m
+decreases-loop-m marks n₀ m₀ n m = 10 - m
 
-add-n : tie.Need-overflow-add-n invariant-loop decreases-loop
-add-n c = let head = c.before.before.before in omega (arith, count_below_le (marked head.before.args.t1) head.loop.m)
+add-n : tie.Need-overflow_add-n invariant-loop-m decreases-loop-m
+add-n c = let head = c.before.before.before in omega (arith, count_below_le (marked head.before.args.t1) head.loop-m.m)
 
-loop-again : tie.Need-loop-preserved invariant-loop decreases-loop
+loop-again : tie.Need-loop-m-preserved invariant-loop-m decreases-loop-m
 loop-again c =
     let turn = c.before.before in
-    let next = counted_more _ 10 _ turn.loop-test.true turn.before.loop.invariant in
-    ⊎_elim (λ w. next.0 w.0.taken w.1) (λ w. next.1 w.0.left w.1) c.if1.branch
+    let next = counted_more _ 10 _ turn.loop-m-test.true turn.before.loop-m.invariant in
+    ⊎_elim (λ w. next.0 w.0.taken w.1) (λ w. next.1 w.0.left w.1) c.if-marks-m.branch
 
-returns : tie.Need-returns invariant-loop decreases-loop
+returns : tie.Need-returns invariant-loop-m decreases-loop-m
 unfolding count_marks
-returns c = counted_all _ 10 _ c.loop-test.false c.before.loop.invariant
+returns c = counted_all _ 10 _ c.loop-m-test.false c.before.loop-m.invariant
 
-pub count-marks-spec : {M : Type 1} → statement M
-count-marks-spec =
+pub count_marks_spec : {M : Type 1} → statement M
+count_marks_spec =
     tie.close
     (tie.spec
-    invariant-loop
-    decreases-loop
+    invariant-loop-m
+    decreases-loop-m
     (λ c. counted_start _ 10)
     (λ c. search rules)
     add-n

@@ -18,30 +18,30 @@ use Rattle.record_reading.proofs.count_shares.Tie as tie
 abbrev there : List Keep → ℕ → Bool
 there shares m = is_there (share_at shares m)
 
-abbrev invariant-loop : tie.invariant-loop
-invariant-loop shares n₀ m₀ n m = Counted (there shares) 10 m n
+abbrev invariant-loop-m : tie.invariant-loop-m
+invariant-loop-m shares n₀ m₀ n m = Counted (there shares) 10 m n
 
-abbrev decreases-loop : tie.decreases-loop
-decreases-loop shares n₀ m₀ n m = 10 - m
+abbrev decreases-loop-m : tie.decreases-loop-m
+decreases-loop-m shares n₀ m₀ n m = 10 - m
 
-add-n : tie.Need-overflow-add-n invariant-loop decreases-loop
-add-n c = let head = c.before.before.before.before in omega (arith, count_below_le (there head.before.args.t1) head.loop.m)
+add-n : tie.Need-overflow_add-n invariant-loop-m decreases-loop-m
+add-n c = let head = c.before.before.before.before in omega (arith, count_below_le (there head.before.args.t1) head.loop-m.m)
 
-loop-again : tie.Need-loop-preserved invariant-loop decreases-loop
+loop-again : tie.Need-loop-m-preserved invariant-loop-m decreases-loop-m
 loop-again c =
     let turn = c.before.before.before in
-    let next = counted_more _ 10 _ turn.loop-test.true turn.before.loop.invariant in
-    let test = sym c.before.is-there.ensures in
-    ⊎_elim (λ w. next.0 (test ∙ w.0.taken) w.1) (λ w. next.1 (test ∙ w.0.left) w.1) c.if1.branch
+    let next = counted_more _ 10 _ turn.loop-m-test.true turn.before.loop-m.invariant in
+    let test = sym c.before.is_there.ensures in
+    ⊎_elim (λ w. next.0 (test ∙ w.0.taken) w.1) (λ w. next.1 (test ∙ w.0.left) w.1) c.if-is_there.branch
 
-returns : tie.Need-returns invariant-loop decreases-loop
+returns : tie.Need-returns invariant-loop-m decreases-loop-m
 unfolding shares_kept
-returns c = counted_all _ 10 _ c.loop-test.false c.before.loop.invariant
+returns c = counted_all _ 10 _ c.loop-m-test.false c.before.loop-m.invariant
 
-pub count-shares-spec : {M : Type 1} → statement M
-count-shares-spec =
+pub count_shares_spec : {M : Type 1} → statement M
+count_shares_spec =
     tie.close
-    (found3 (tie.spec invariant-loop decreases-loop (λ c. counted_start _ 10)) (search rules)
+    (found3 (tie.spec invariant-loop-m decreases-loop-m (λ c. counted_start _ 10)) (search rules)
     add-n
     (λ c. search rules)
     (λ c. search rules)

@@ -9,21 +9,21 @@ use Rattle.rules.specs.Record.{no_row, row_at}
 use Rattle.record_reading.proofs.matrix_of.Statement.{statement}
 use Rattle.record_reading.proofs.matrix_of.Tie as tie
 
-abbrev invariant-loop : tie.invariant-loop
-invariant-loop rows c₀ j₀ c j = Filling (λ i. row_at (get_or rows i no_row)) c₀ 8 j c
+abbrev invariant-loop-j : tie.invariant-loop-j
+invariant-loop-j rows c₀ j₀ c j = Filling (λ i. row_at (get_or rows i no_row)) c₀ 8 j c
 
-abbrev decreases-loop : tie.decreases-loop
-decreases-loop rows c₀ j₀ c j = 8 - j
+abbrev decreases-loop-j : tie.decreases-loop-j
+decreases-loop-j rows c₀ j₀ c j = 8 - j
 
-returns : tie.Need-returns invariant-loop decreases-loop
+returns : tie.Need-returns invariant-loop-j decreases-loop-j
 returns c =
     let rows = c.before.before.args.t1 in
     let len : length rows ≡ 8 = search rules in
-    filling_map row_at rows no_row c.before.loop.invariant c.loop-test.false refl len
+    filling_map row_at rows no_row c.before.loop-j.invariant c.loop-j-test.false refl len
 
-pub matrix-of-spec : {M : Type 1} → statement M
-matrix-of-spec =
+pub matrix_of_spec : {M : Type 1} → statement M
+matrix_of_spec =
     tie.close
-    (found6 (tie.spec invariant-loop decreases-loop (λ c. filling_none)) (search rules)
-    (λ c. filling_more c.before.before.before.loop.invariant c.before.before.loop-test.true refl)
+    (found6 (tie.spec invariant-loop-j decreases-loop-j (λ c. filling_none)) (search rules)
+    (λ c. filling_more c.before.before.before.loop-j.invariant c.before.before.loop-j-test.true refl)
     returns)

@@ -15,30 +15,30 @@ use Rattle.record_reading.specs.Slots.{same_row}
 use Rattle.record_reading.proofs.same_matrix.Statement.{statement}
 use Rattle.record_reading.proofs.same_matrix.Tie as tie
 
-abbrev invariant-loop : tie.invariant-loop
-invariant-loop k c d j₀ j = all_below j (λ i. all_below k (λ l. eqb (entry c i l) (entry d i l))) ≡ true
+abbrev invariant-loop-j : tie.invariant-loop-j
+invariant-loop-j k c d j₀ j = all_below j (λ i. all_below k (λ l. eqb (entry c i l) (entry d i l))) ≡ true
 
-abbrev decreases-loop : tie.decreases-loop
-decreases-loop k c d j₀ j = k - j
+abbrev decreases-loop-j : tie.decreases-loop-j
+decreases-loop-j k c d j₀ j = k - j
 
-returns : tie.Need-returns invariant-loop decreases-loop
+returns : tie.Need-returns-then-not-same_row invariant-loop-j decreases-loop-j
 unfolding same_matrix same_row
-returns c = all_fails _ _ _ c.before.before.before.before.loop-test.true (failed c.before.same_row.ensures c.if1.true)
+returns c = all_fails _ _ _ c.before.before.before.before.loop-j-test.true (failed c.before.same_row.ensures c.if-not-same_row.true)
 
-loop-again : tie.Need-loop-preserved invariant-loop decreases-loop
+loop-again : tie.Need-loop-j-preserved invariant-loop-j decreases-loop-j
 unfolding same_row
 loop-again c =
     let turn = c.before.before.before.before in
-    all_below_more _ _ turn.before.loop.invariant (passed c.before.same_row.ensures c.if1.false)
+    all_below_more _ _ turn.before.loop-j.invariant (passed c.before.same_row.ensures c.if-not-same_row.false)
 
-returns-2 : tie.Need-returns-2 invariant-loop decreases-loop
+returns-2 : tie.Need-returns invariant-loop-j decreases-loop-j
 unfolding same_matrix
-returns-2 c = all_passed _ _ _ c.loop-test.false c.before.loop.invariant
+returns-2 c = all_passed _ _ _ c.loop-j-test.false c.before.loop-j.invariant
 
-pub same-matrix-spec : {M : Type 1} → statement M
-same-matrix-spec =
+pub same_matrix_spec : {M : Type 1} → statement M
+same_matrix_spec =
     tie.close
-    (found5 (tie.spec invariant-loop decreases-loop (λ c. all_below-zero _)) (search rules)
+    (found5 (tie.spec invariant-loop-j decreases-loop-j (λ c. all_below-zero _)) (search rules)
     returns
     (λ c. search rules)
     (λ c. search rules)

@@ -15,27 +15,27 @@ use Rattle.record_reading.specs.Slots.{same_row}
 use Rattle.record_reading.proofs.same_row.Statement.{statement}
 use Rattle.record_reading.proofs.same_row.Tie as tie
 
-abbrev invariant-loop : tie.invariant-loop
-invariant-loop k a b l₀ l = all_below l (λ i. eqb (get_or a i (element 0)).0 (get_or b i (element 0)).0) ≡ true
+abbrev invariant-loop-l : tie.invariant-loop-l
+invariant-loop-l k a b l₀ l = all_below l (λ i. eqb (get_or a i (element 0)).0 (get_or b i (element 0)).0) ≡ true
 
-abbrev decreases-loop : tie.decreases-loop
-decreases-loop k a b l₀ l = k - l
+abbrev decreases-loop-l : tie.decreases-loop-l
+decreases-loop-l k a b l₀ l = k - l
 
-returns : tie.Need-returns invariant-loop decreases-loop
+returns : tie.Need-returns-then-x-y invariant-loop-l decreases-loop-l
 unfolding same_row
-returns c = let turn = c.before.before.before.before in all_fails _ _ _ turn.before.loop-test.true (ne_eqb _ _ c.if1.true)
+returns c = let turn = c.before.before.before.before in all_fails _ _ _ turn.before.loop-l-test.true (ne_eqb _ _ c.if-x-y.true)
 
-loop-again : tie.Need-loop-preserved invariant-loop decreases-loop
-loop-again c = let turn = c.before.before.before.before in all_below_more _ _ turn.before.before.loop.invariant (eq-eqb _ _ c.if1.false)
+loop-again : tie.Need-loop-l-preserved invariant-loop-l decreases-loop-l
+loop-again c = let turn = c.before.before.before.before in all_below_more _ _ turn.before.before.loop-l.invariant (eq-eqb _ _ c.if-x-y.false)
 
-returns-2 : tie.Need-returns-2 invariant-loop decreases-loop
+returns-2 : tie.Need-returns invariant-loop-l decreases-loop-l
 unfolding same_row
-returns-2 c = all_passed _ _ _ c.loop-test.false c.before.loop.invariant
+returns-2 c = all_passed _ _ _ c.loop-l-test.false c.before.loop-l.invariant
 
-pub same-row-spec : {M : Type 1} → statement M
-same-row-spec =
+pub same_row_spec : {M : Type 1} → statement M
+same_row_spec =
     tie.close
-    (found4 (tie.spec invariant-loop decreases-loop (λ c. all_below-zero _)) (search rules)
+    (found4 (tie.spec invariant-loop-l decreases-loop-l (λ c. all_below-zero _)) (search rules)
     returns
     (λ c. search rules)
     (λ c. search rules)

@@ -5,13 +5,13 @@ use Rattle.rules.specs.Steps.{opened}
 use Rattle.record_slots.proofs.opened_for.Statement.{statement}
 use Rattle.record_slots.proofs.opened_for.Tie as tie
 
-returns : tie.Need-returns
+returns : tie.Need-returns-then-slot
 unfolding opened
-returns c = rw c.if1.true
+returns c = rw c.if-slot.true
 
-returns-2 : tie.Need-returns-2
+returns-2 : tie.Need-returns
 unfolding opened zero_slot
-returns-2 c = rw (c.before.if1.false, c.rows_of_lem.ensures)
+returns-2 c = rw (c.before.if-slot.false, c.rows_of-rows.ensures)
 
-pub opened-for-spec : {M : Type 1} → statement M
-opened-for-spec = tie.close (tie.spec returns (λ c κs. search rules) returns-2)
+pub opened_for_spec : {M : Type 1} → statement M
+opened_for_spec = tie.close (tie.spec returns (λ c κs. search rules) returns-2)

@@ -10,33 +10,33 @@ use Rattle.record_slots.specs.Found.{own_in}
 use Rattle.record_slots.proofs.own_slot.Statement.{statement}
 use Rattle.record_slots.proofs.own_slot.Tie as tie
 
-abbrev invariant-loop : tie.invariant-loop
-invariant-loop k c slots s₀ s = NotYet (λ i. has_matrix k c (slot_in slots i)) 20 s
+abbrev invariant-loop-s : tie.invariant-loop-s
+invariant-loop-s k c slots s₀ s = NotYet (λ i. has_matrix k c (slot_in slots i)) 20 s
 
-abbrev decreases-loop : tie.decreases-loop
-decreases-loop k c slots s₀ s = 20 - s
+abbrev decreases-loop-s : tie.decreases-loop-s
+decreases-loop-s k c slots s₀ s = 20 - s
 
-returns : tie.Need-returns invariant-loop decreases-loop
+returns : tie.Need-returns-then-has_matrix invariant-loop-s decreases-loop-s
 unfolding own_in
 returns c =
     let turn = c.before.before.before in
-    first_here _ _ _ turn.loop-test.true turn.before.loop.invariant (sym c.before.has-matrix.ensures ∙ c.if1.true)
+    first_here _ _ _ turn.loop-s-test.true turn.before.loop-s.invariant (sym c.before.has_matrix.ensures ∙ c.if-has_matrix.true)
 
-loop-again : tie.Need-loop-preserved invariant-loop decreases-loop
+loop-again : tie.Need-loop-s-preserved invariant-loop-s decreases-loop-s
 loop-again c =
     let turn = c.before.before.before in
-    first_more _ _ _ turn.loop-test.true turn.before.loop.invariant (sym c.before.has-matrix.ensures ∙ c.if1.false)
+    first_more _ _ _ turn.loop-s-test.true turn.before.loop-s.invariant (sym c.before.has_matrix.ensures ∙ c.if-has_matrix.false)
 
-returns-2 : tie.Need-returns-2 invariant-loop decreases-loop
+returns-2 : tie.Need-returns invariant-loop-s decreases-loop-s
 unfolding own_in
-returns-2 c = first_none _ _ _ c.loop-test.false c.before.loop.invariant
+returns-2 c = first_none _ _ _ c.loop-s-test.false c.before.loop-s.invariant
 
-pub own-slot-spec : {M : Type 1} → statement M
-own-slot-spec =
+pub own_slot_spec : {M : Type 1} → statement M
+own_slot_spec =
     tie.close
     (tie.spec
-    invariant-loop
-    decreases-loop
+    invariant-loop-s
+    decreases-loop-s
     (λ c. (omega arith, refl))
     (λ c. search rules)
     (λ c. search rules)

@@ -9,24 +9,24 @@ use Rattle.rules.specs.Steps.{row_of}
 use Rattle.record_slots.proofs.rows_of.Statement.{statement}
 use Rattle.record_slots.proofs.rows_of.Tie as tie
 
-abbrev invariant-loop : tie.invariant-loop
-invariant-loop c rows₀ j₀ rows j = Filling (λ i. row_of (get_or c i [])) rows₀ 8 j rows
+abbrev invariant-loop-j : tie.invariant-loop-j
+invariant-loop-j c rows₀ j₀ rows j = Filling (λ i. row_of (get_or c i [])) rows₀ 8 j rows
 
-abbrev decreases-loop : tie.decreases-loop
-decreases-loop c rows₀ j₀ rows j = 8 - j
+abbrev decreases-loop-j : tie.decreases-loop-j
+decreases-loop-j c rows₀ j₀ rows j = 8 - j
 
-returns : tie.Need-returns invariant-loop decreases-loop
+returns : tie.Need-returns invariant-loop-j decreases-loop-j
 returns c =
     let l = c.before.before.args.t1 in
     let len : length l ≡ 8 = search rules in
-    filling_map row_of l [] c.before.loop.invariant c.loop-test.false refl len
+    filling_map row_of l [] c.before.loop-j.invariant c.loop-j-test.false refl len
 
-pub rows-of-spec : {M : Type 1} → statement M
-rows-of-spec =
+pub rows_of_spec : {M : Type 1} → statement M
+rows_of_spec =
     tie.close
     (tie.spec
-    invariant-loop
-    decreases-loop
+    invariant-loop-j
+    decreases-loop-j
     (λ c. filling_none)
     (λ c. search rules)
     (λ c. search rules)
@@ -34,5 +34,5 @@ rows-of-spec =
     (λ c. search rules)
     (λ c. search rules)
     (λ c. search rules)
-    (λ c. filling_more c.before.before.loop.invariant c.before.loop-test.true refl)
+    (λ c. filling_more c.before.before.loop-j.invariant c.before.loop-j-test.true refl)
     returns)

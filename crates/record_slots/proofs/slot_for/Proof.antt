@@ -6,14 +6,14 @@ use Rattle.record_slots.specs.Found.{own_in, free_in}
 use Rattle.record_slots.proofs.slot_for.Statement.{statement}
 use Rattle.record_slots.proofs.slot_for.Tie as tie
 
-returns : tie.Need-returns
+returns : tie.Need-returns-then-own-lt-SLOTS
 unfolding slot_for own_slot free_slot own_in free_in
-returns c = rw (← c.before.own-slot.ensures, lt-ltb _ _ c.if1.true)
+returns c = rw (← c.before.own_slot-own.ensures, lt-ltb _ _ c.if-own-lt-SLOTS.true)
 
-returns-2 : tie.Need-returns-2
+returns-2 : tie.Need-returns
 unfolding slot_for own_slot free_slot own_in free_in
-returns-2 c = rw (← c.before.before.own-slot.ensures, le-ltb _ _ c.before.if1.false) c.free-slot.ensures
+returns-2 c = rw (← c.before.before.own_slot-own.ensures, le-ltb _ _ c.before.if-own-lt-SLOTS.false) c.free_slot.ensures
 
-pub slot-for-spec : {M : Type 1} → statement M
-slot-for-spec =
+pub slot_for_spec : {M : Type 1} → statement M
+slot_for_spec =
     tie.close (tie.spec (λ c. search rules) (λ c κs. search rules) returns (λ c κs. search rules) returns-2)

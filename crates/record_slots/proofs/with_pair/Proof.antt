@@ -8,5 +8,5 @@ returns : tie.Need-returns
 unfolding keeping
 returns c = refl
 
-pub with-pair-spec : {M : Type 1} → statement M
-with-pair-spec = tie.close (tie.spec returns)
+pub with_pair_spec : {M : Type 1} → statement M
+with_pair_spec = tie.close (tie.spec returns)

@@ -3,14 +3,14 @@ use borrow.Author.Rules.{rules}
 use Rattle.record_slots.proofs.with_point.Statement.{statement}
 use Rattle.record_slots.proofs.with_point.Tie as tie
 
-by-echo : tie.Need-returns
-by-echo c = rw (c.before.enum_told.given.1, c.before.before.before.held.ensures)
+by-echo : tie.Need-returns-in-ByEcho
+by-echo c = rw (c.before.enum_told-1.given.1, c.before.before.before.held-place.ensures)
 
-by-ready : tie.Need-returns-2
-by-ready c = rw (c.before.enum-told2.given.1, c.before.before.before.held.ensures)
+by-ready : tie.Need-returns-in-ByReady
+by-ready c = rw (c.before.enum_told-in-ByReady-1.given.1, c.before.before.before.held-place.ensures)
 
-pub with-point-spec : {M : Type 1} → statement M
-with-point-spec =
+pub with_point_spec : {M : Type 1} → statement M
+with_point_spec =
     tie.close
     (tie.spec
     (λ c. search rules)

@@ -22,43 +22,43 @@ refused : (x : Record) {b : Bool} → (Tests x → b ≡ true) → b ≡ false �
 refused x f e = sym (false_unless (sound x) (λ h. true≢false (sym (f (tests x h)) ∙ e)))
 
 -- the group and the numbers passed
-group : (c : tie.Else1) → group_keeps c.before.before.before.args.x.setup ≡ true
-group c = passed c.before.group_keeps_lem.ensures c.if1.false
+group : (c : tie.Else-not-group_keeps) → group_keeps c.before.before.before.args.x.setup ≡ true
+group c = passed c.before.group_keeps.ensures c.if-not-group_keeps.false
 
-numbers : (c : tie.Else2) → numbers_keep c.before.before.before.before.before.args.x.setup ≡ true
-numbers c = passed c.before.numbers_keep_lem.ensures c.if2.false
+numbers : (c : tie.Else-not-numbers_keep_lem) → numbers_keep c.before.before.before.before.before.args.x.setup ≡ true
+numbers c = passed c.before.numbers_keep_lem.ensures c.if-not-numbers_keep_lem.false
 
 -- the two calls that are given the group
-abbrev asked3 : tie.After-slots-keep → Record
+abbrev asked3 : tie.After-slots_keep → Record
 asked3 c = c.before.before.before.before.before.before.before.before.args.x
 
-slots-tested : (c : tie.After-slots-keep)
-    → c.slots-keep.result ≡ every_slot (asked3 c).slots (slot_keeps (group_in (asked3 c)) (asked3 c).setup)
+slots-tested : (c : tie.After-slots_keep)
+    → c.slots_keep.result ≡ every_slot (asked3 c).slots (slot_keeps (group_in (asked3 c)) (asked3 c).setup)
 slots-tested c =
     let x = asked3 c in
-    c.slots-keep.ensures
+    c.slots_keep.ensures
     ∙ ap (λ (G : Group). every_slot x.slots (slot_keeps G x.setup)) c.before.before.Group-of.ensures
 
 -- from the branch behind the fourth test
-abbrev slots4 : tie.Else4 → tie.After-slots-keep
+abbrev slots4 : tie.Else-not-matrices_differ → tie.After-slots_keep
 slots4 c = c.before.before.before.before
 
-abbrev asked7 : tie.After-recovery-keeps → tie.After-slots-keep
+abbrev asked7 : tie.After-recovery_keeps → tie.After-slots_keep
 asked7 c = slots4 c.before.before.before.before.before
 
-recovery-tested : (c : tie.After-recovery-keeps)
-    → c.recovery-keeps.result ≡ recovery_passes (group_in (asked3 (asked7 c))).q (asked3 (asked7 c))
+recovery-tested : (c : tie.After-recovery_keeps)
+    → c.recovery_keeps.result ≡ recovery_passes (group_in (asked3 (asked7 c))).q (asked3 (asked7 c))
 recovery-tested c =
     let slots = asked7 c in
-    c.recovery-keeps.ensures ∙ ap (λ (G : Group). recovery_passes G.q (asked3 slots)) slots.before.before.Group-of.ensures
+    c.recovery_keeps.ensures ∙ ap (λ (G : Group). recovery_passes G.q (asked3 slots)) slots.before.before.Group-of.ensures
 
-returns : tie.Need-returns
-returns c = refused _ (λ t. t.group) (failed c.before.group_keeps_lem.ensures c.if1.true)
+returns : tie.Need-returns-then-not-group_keeps
+returns c = refused _ (λ t. t.group) (failed c.before.group_keeps.ensures c.if-not-group_keeps.true)
 
-returns-2 : tie.Need-returns-2
-returns-2 c = refused _ (λ t. t.numbers) (failed c.before.numbers_keep_lem.ensures c.if2.true)
+returns-2 : tie.Need-returns-then-not-numbers_keep_lem
+returns-2 c = refused _ (λ t. t.numbers) (failed c.before.numbers_keep_lem.ensures c.if-not-numbers_keep_lem.true)
 
-slots-keep-requires : tie.Need-slots-keep-requires
+slots-keep-requires : tie.Need-slots_keep-requires
 slots-keep-requires c κs =
     let second = c.before.before in
     let first = second.before.before in
@@ -68,37 +68,37 @@ slots-keep-requires c κs =
     let p : 0 < (group_of u.group).p = omega arith in
     (rw c.before.Group-of.ensures p, s)
 
-returns-3 : tie.Need-returns-3
-returns-3 c = refused _ (λ t. t.slots) (failed (slots-tested c.before) c.if3.true)
+returns-3 : tie.Need-returns-then-not-slots_keep
+returns-3 c = refused _ (λ t. t.slots) (failed (slots-tested c.before) c.if-not-slots_keep.true)
 
-matrices-differ-requires : tie.Need-matrices-differ-requires
+matrices-differ-requires : tie.Need-matrices_differ-requires
 matrices-differ-requires c κs =
     let third = c.before in
     (bounds _ (numbers third.before.before.before.before)).sizes.high
 
-returns-4 : tie.Need-returns-4
-returns-4 c = refused _ (λ t. t.differ) (failed c.before.matrices-differ.ensures c.if4.true)
+returns-4 : tie.Need-returns-then-not-matrices_differ
+returns-4 c = refused _ (λ t. t.differ) (failed c.before.matrices_differ.ensures c.if-not-matrices_differ.true)
 
-returns-5 : tie.Need-returns-5
-returns-5 c = refused _ (λ t. t.marks) (failed c.before.marks-keep.ensures c.if5.true)
+returns-5 : tie.Need-returns-then-not-marks_keep
+returns-5 c = refused _ (λ t. t.marks) (failed c.before.marks_keep.ensures c.if-not-marks_keep.true)
 
-completion-keeps-requires : tie.Need-completion-keeps-requires
+completion-keeps-requires : tie.Need-completion_keeps-requires
 completion-keeps-requires c κs =
     let third = slots4 c.before.before in
     let second = third.before.before.before in
     let s = (bounds second.before.before.before.before.before.args.x.setup (numbers second)).sizes in
     omega arith
 
-returns-6 : tie.Need-returns-6
-returns-6 c = refused _ (λ t. t.completion) (failed c.before.completion-keeps.ensures c.if6.true)
+returns-6 : tie.Need-returns-then-not-completion_keeps
+returns-6 c = refused _ (λ t. t.completion) (failed c.before.completion_keeps.ensures c.if-not-completion_keeps.true)
 
-returns-7 : tie.Need-returns-7
-returns-7 c = refused _ (λ t. t.recovery) (failed (recovery-tested c.before) c.if7.true)
+returns-7 : tie.Need-returns-then-not-recovery_keeps
+returns-7 c = refused _ (λ t. t.recovery) (failed (recovery-tested c.before) c.if-not-recovery_keeps.true)
 
-returns-8 : tie.Need-returns-8
-returns-8 c = refused _ (λ t. t.dealt) (failed c.before.dealt-keeps.ensures c.if8.true)
+returns-8 : tie.Need-returns-then-not-dealt_keeps
+returns-8 c = refused _ (λ t. t.dealt) (failed c.before.dealt_keeps.ensures c.if-not-dealt_keeps.true)
 
-returns-9 : tie.Need-returns-9
+returns-9 : tie.Need-returns
 returns-9 c =
     let eighth = c.before in
     let seventh = eighth.before.before in
@@ -109,25 +109,25 @@ returns-9 c =
     let second = third.before.before.before.before in
     let first = second.before.before in
     let x = first.before.before.before.args.x in
-    c.senders-zero.ensures
+    c.senders_zero.ensures
     ∙ iff_same (senders_clear x) (sound x)
     (λ e.
     tests_sound x
     (record {
       group = group first;
       numbers = numbers second;
-      slots = passed (slots-tested third.before) third.if3.false;
-      differ = passed fourth.before.matrices-differ.ensures fourth.if4.false;
-      marks = passed fifth.before.marks-keep.ensures fifth.if5.false;
-      completion = passed sixth.before.completion-keeps.ensures sixth.if6.false;
-      recovery = passed (recovery-tested seventh.before) seventh.if7.false;
-      dealt = passed eighth.before.dealt-keeps.ensures eighth.if8.false;
+      slots = passed (slots-tested third.before) third.if-not-slots_keep.false;
+      differ = passed fourth.before.matrices_differ.ensures fourth.if-not-matrices_differ.false;
+      marks = passed fifth.before.marks_keep.ensures fifth.if-not-marks_keep.false;
+      completion = passed sixth.before.completion_keeps.ensures sixth.if-not-completion_keeps.false;
+      recovery = passed (recovery-tested seventh.before) seventh.if-not-recovery_keeps.false;
+      dealt = passed eighth.before.dealt_keeps.ensures eighth.if-not-dealt_keeps.false;
       senders = e;
     }))
     (λ h. (tests x h).senders)
 
-pub is-sound-spec : {M : Type 1} → statement M
-is-sound-spec =
+pub is_sound_spec : {M : Type 1} → statement M
+is_sound_spec =
     tie.close
     (tie.spec
     (λ c κs. search rules)

@@ -8,5 +8,5 @@ returns : tie.Need-returns
 unfolding commanded_after
 returns c = refl
 
-pub commanded-spec : {M : Type 1} → statement M
-commanded-spec = tie.close (tie.spec returns)
+pub commanded_spec : {M : Type 1} → statement M
+commanded_spec = tie.close (tie.spec returns)

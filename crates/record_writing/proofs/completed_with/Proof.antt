@@ -6,7 +6,7 @@ use Rattle.record_writing.proofs.completed_with.Tie as tie
 
 returns : tie.Need-returns
 unfolding completing
-returns c = rw c.first-completion.ensures
+returns c = rw c.first_completion-completion.ensures
 
-pub completed-with-spec : {M : Type 1} → statement M
-completed-with-spec = tie.close (tie.spec (λ c κs. search rules) returns)
+pub completed_with_spec : {M : Type 1} → statement M
+completed_with_spec = tie.close (tie.spec (λ c κs. search rules) returns)

@@ -8,5 +8,5 @@ returns : tie.Need-returns
 unfolding dealt_after
 returns c = refl
 
-pub dealt-spec : {M : Type 1} → statement M
-dealt-spec = tie.close (tie.spec returns)
+pub dealt_spec : {M : Type 1} → statement M
+dealt_spec = tie.close (tie.spec returns)

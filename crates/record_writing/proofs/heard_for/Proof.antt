@@ -6,7 +6,7 @@ use Rattle.record_writing.proofs.heard_for.Tie as tie
 
 returns : tie.Need-returns
 unfolding heard
-returns c = rw c.heard-marks.ensures
+returns c = rw c.heard_marks-marks.ensures
 
-pub heard-for-spec : {M : Type 1} → statement M
-heard-for-spec = tie.close (tie.spec (λ c κs. search rules) returns)
+pub heard_for_spec : {M : Type 1} → statement M
+heard_for_spec = tie.close (tie.spec (λ c κs. search rules) returns)

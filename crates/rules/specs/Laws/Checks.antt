@@ -61,24 +61,24 @@ module _ (G : Group) (k : ℕ) (C : List (List Element)) where
     entry_in j l hj hl =
         all_below_at (λ l. in_group G (entry C j l)) k l (all_below_at (λ j. all_below k (λ l. in_group G (entry C j l))) k j passes hj) hl
 
-    pub entry-below : (j l : ℕ) → j < k → l < k → entry C j l < G.p
+    pub entry_below : (j l : ℕ) → j < k → l < k → entry C j l < G.p
     unfolding in_group
-    entry-below j l hj hl =
+    entry_below j l hj hl =
         let e = entry C j l in
         ltb-true e G.p (and_left (ltb e G.p) _ (and_right (not (eqb e 0)) _ (entry_in j l hj hl)))
 
-    pub entry-member : (j l : ℕ) → j < k → l < k → entry C j l ^ G.q % G.p ≡ 1
+    pub entry_member : (j l : ℕ) → j < k → l < k → entry C j l ^ G.q % G.p ≡ 1
     unfolding in_group
-    entry-member j l hj hl =
+    entry_member j l hj hl =
         let e = entry C j l in
         eqb-true (e ^ G.q % G.p) 1 (and_right (ltb e G.p) _ (and_right (not (eqb e 0)) _ (entry_in j l hj hl)))
 
     -- The products are members too.
-    pub column-member : 1 < G.p → (i l : ℕ) → l < k → along_column k C i l ^ G.q % G.p ≡ 1
-    column-member big i l hl = prod_member G.q G.p k (λ j. entry C j l) (λ j hj. entry-member j l hj hl) big (λ j. i ^ j)
+    pub column_member : 1 < G.p → (i l : ℕ) → l < k → along_column k C i l ^ G.q % G.p ≡ 1
+    column_member big i l hl = prod_member G.q G.p k (λ j. entry C j l) (λ j hj. entry_member j l hj hl) big (λ j. i ^ j)
 
-    pub row-member : 1 < G.p → (i j : ℕ) → j < k → along_row k C i j ^ G.q % G.p ≡ 1
-    row-member big i j hj = prod_member G.q G.p k (entry C j) (λ l hl. entry-member j l hj hl) big (λ l. i ^ l)
+    pub row_member : 1 < G.p → (i j : ℕ) → j < k → along_row k C i j ^ G.q % G.p ≡ 1
+    row_member big i j hj = prod_member G.q G.p k (entry C j) (λ l hl. entry_member j l hj hl) big (λ l. i ^ l)
 
   -- The product at (x, y) is made of the columns' products, and of the rows'.
   pub opened_columns : (x y : ℕ) → opened_at G k C x y ≡ prod_below k (λ l. along_column k C x l ^ (y ^ l)) % G.p
@@ -92,29 +92,29 @@ module _ (G : Group) (k : ℕ) (C : List (List Element)) where
   -- ---- the equations
 
   module _ (i : ℕ) (P : Polynomials) where
-    pub l-equation : (l : ℕ) → (l_equation G k C i P l ≡ true) ↔ (committed G (coefficient P.a l) (coefficient P.a2 l) ≡ along_column k C i l % G.p)
+    pub l_equation_lem : (l : ℕ) → (l_equation G k C i P l ≡ true) ↔ (committed G (coefficient P.a l) (coefficient P.a2 l) ≡ along_column k C i l % G.p)
     unfolding l_equation
-    l-equation l = opened_by G _ _ _
+    l_equation_lem l = opened_by G _ _ _
 
-    pub j-equation : (j : ℕ) → (j_equation G k C i P j ≡ true) ↔ (committed G (coefficient P.b j) (coefficient P.b2 j) ≡ along_row k C i j % G.p)
+    pub j_equation_lem : (j : ℕ) → (j_equation G k C i P j ≡ true) ↔ (committed G (coefficient P.b j) (coefficient P.b2 j) ≡ along_row k C i j % G.p)
     unfolding j_equation
-    j-equation j = opened_by G _ _ _
+    j_equation_lem j = opened_by G _ _ _
 
     -- ---- the checks
 
-    pub polynomial-checks : ((l : ℕ) → l < k → l_equation G k C i P l ≡ true) → ((j : ℕ) → j < k → j_equation G k C i P j ≡ true)
+    pub polynomial_checks : ((l : ℕ) → l < k → l_equation G k C i P l ≡ true) → ((j : ℕ) → j < k → j_equation G k C i P j ≡ true)
         → polynomial_check G k C i P ≡ true
     unfolding polynomial_check
-    polynomial-checks h h' = and_intro _ _ (all_below_all _ k h) (all_below_all _ k h')
+    polynomial_checks h h' = and_intro _ _ (all_below_all _ k h) (all_below_all _ k h')
 
     module _ (passes : polynomial_check G k C i P ≡ true) where
-      pub polynomial-columns : (l : ℕ) → l < k → committed G (coefficient P.a l) (coefficient P.a2 l) ≡ along_column k C i l % G.p
+      pub polynomial_columns : (l : ℕ) → l < k → committed G (coefficient P.a l) (coefficient P.a2 l) ≡ along_column k C i l % G.p
       unfolding polynomial_check
-      polynomial-columns l hl = (l-equation l).0 (all_below_at (l_equation G k C i P) k l (and_left _ _ passes) hl)
+      polynomial_columns l hl = (l_equation_lem l).0 (all_below_at (l_equation G k C i P) k l (and_left _ _ passes) hl)
 
-      pub polynomial-rows : (j : ℕ) → j < k → committed G (coefficient P.b j) (coefficient P.b2 j) ≡ along_row k C i j % G.p
+      pub polynomial_rows : (j : ℕ) → j < k → committed G (coefficient P.b j) (coefficient P.b2 j) ≡ along_row k C i j % G.p
       unfolding polynomial_check
-      polynomial-rows j hj = (j-equation j).0 (all_below_at (j_equation G k C i P) k j (and_right (all_below k (l_equation G k C i P)) _ passes) hj)
+      polynomial_rows j hj = (j_equation_lem j).0 (all_below_at (j_equation G k C i P) k j (and_right (all_below k (l_equation G k C i P)) _ passes) hj)
 
   module _ (i m : ℕ) (f : Four) where
     pub point_checks : committed G (α f) (α' f) ≡ opened_at G k C m i → committed G (β f) (β' f) ≡ opened_at G k C i m
@@ -122,13 +122,13 @@ module _ (G : Group) (k : ℕ) (C : List (List Element)) where
     unfolding point_check αEquation βEquation
     point_checks h h' = and_intro _ _ ((opened_by G _ _ _).1 h) ((opened_by G _ _ _).1 h')
 
-    pub point-α : point_check G k C i m f ≡ true → committed G (α f) (α' f) ≡ opened_at G k C m i
+    pub point_α : point_check G k C i m f ≡ true → committed G (α f) (α' f) ≡ opened_at G k C m i
     unfolding point_check αEquation
-    point-α h = (opened_by G _ _ _).0 (and_left (αEquation G k C i m f) _ h)
+    point_α h = (opened_by G _ _ _).0 (and_left (αEquation G k C i m f) _ h)
 
-    pub point-β : point_check G k C i m f ≡ true → committed G (β f) (β' f) ≡ opened_at G k C i m
+    pub point_β : point_check G k C i m f ≡ true → committed G (β f) (β' f) ≡ opened_at G k C i m
     unfolding point_check βEquation
-    point-β h = (opened_by G _ _ _).0 (and_right (αEquation G k C i m f) _ h)
+    point_β h = (opened_by G _ _ _).0 (and_right (αEquation G k C i m f) _ h)
 
   -- the share check is its one equation
   pub share_equation : (m : ℕ) (s : Pair) → (share_check G k C m s ≡ true) ↔ (committed G s.first.0 s.second.0 ≡ along_column k C m 0 % G.p)
@@ -174,26 +174,26 @@ module _ (q : ℕ) where
 
   -- what is computed from coefficients, and what is interpolated
   module _ (some : 0 < q) where
-    pub echo-below : (k : ℕ) (P : Polynomials) (j : ℕ) → four_below q (echo_four q k P j) ≡ true
+    pub echo_below : (k : ℕ) (P : Polynomials) (j : ℕ) → four_below q (echo_four q k P j) ≡ true
     unfolding echo_four
-    echo-below k P j =
+    echo_below k P j =
         four_below_lem (echo_four q k P j)
         (value_below q k P.a j some) (value_below q k P.a2 j some) (value_below q k P.b j some) (value_below q k P.b2 j some)
 
-    pub through-below : {A : Type 0} (ps : List (Said A)) (number : A → ℕ) (x : ℕ) → through q ps number x < q
+    pub through_below : {A : Type 0} (ps : List (Said A)) (number : A → ℕ) (x : ℕ) → through q ps number x < q
     unfolding through
-    through-below ps number x = interpolate_below q (length ps) _ _ x some
+    through_below ps number x = interpolate_below q (length ps) _ _ x some
 
-    pub ready-below : (ps : List (Said Four)) (j : ℕ) → four_below q (ready_four q ps j) ≡ true
+    pub ready_below : (ps : List (Said Four)) (j : ℕ) → four_below q (ready_four q ps j) ≡ true
     unfolding ready_four
-    ready-below ps j =
-        four_below_lem (ready_four q ps j) (through-below ps β j) (through-below ps β' j) (through-below ps α j) (through-below ps α' j)
+    ready_below ps j =
+        four_below_lem (ready_four q ps j) (through_below ps β j) (through_below ps β' j) (through_below ps α j) (through_below ps α' j)
 
-    pub pairFrom-below : (ps : List (Said Four)) → pair_below q (pair_from q ps) ≡ true
+    pub pair_from_below : (ps : List (Said Four)) → pair_below q (pair_from q ps) ≡ true
     unfolding pair_from
-    pairFrom-below ps = pair_below_lem (pair_from q ps) (through-below ps β 0) (through-below ps β' 0)
+    pair_from_below ps = pair_below_lem (pair_from q ps) (through_below ps β 0) (through_below ps β' 0)
 
     pub recovered_below : (ps : List (Said Pair)) → pair_below q (recovered_from q ps) ≡ true
     unfolding recovered_from
     recovered_below ps =
-        pair_below_lem (recovered_from q ps) (through-below ps (λ s. s.first.0) 0) (through-below ps (λ s. s.second.0) 0)
+        pair_below_lem (recovered_from q ps) (through_below ps (λ s. s.first.0) 0) (through_below ps (λ s. s.second.0) 0)

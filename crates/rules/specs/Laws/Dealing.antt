@@ -41,13 +41,13 @@ module _ (u : SetUp) (small : u.k ≤ 8) (secret : ℕ) (coins : List ℕ) (j l 
 
 module _ (k : ℕ) (small : k ≤ 8) where
   module _ (q : ℕ) (f : List (List Exponent)) (i l : ℕ) (hl : l < k) where
-    pub alongY-at : coefficient (along_y q k f i) l ≡ sum_below k (λ j. coefficient₂ f j l * i ^ j) % q
+    pub along_y_at : coefficient (along_y q k f i) l ≡ sum_below k (λ j. coefficient₂ f j l * i ^ j) % q
     unfolding along_y
-    alongY-at = coefficient_at k (λ l. sum_below k (λ j. coefficient₂ f j l * i ^ j) % q) small l hl
+    along_y_at = coefficient_at k (λ l. sum_below k (λ j. coefficient₂ f j l * i ^ j) % q) small l hl
 
-    pub alongX-at : coefficient (along_x q k f i) l ≡ sum_below k (λ j. coefficient₂ f l j * i ^ j) % q
+    pub along_x_at : coefficient (along_x q k f i) l ≡ sum_below k (λ j. coefficient₂ f l j * i ^ j) % q
     unfolding along_x
-    alongX-at = coefficient_at k (λ l. sum_below k (λ j. coefficient₂ f l j * i ^ j) % q) small l hl
+    along_x_at = coefficient_at k (λ l. sum_below k (λ j. coefficient₂ f l j * i ^ j) % q) small l hl
 
 -- ---- values
 
@@ -69,14 +69,14 @@ module _ (k : ℕ) (small : k ≤ 8) (q : ℕ) (f : List (List Exponent)) where
   unfolding value_at
   along_y_lem x y =
       sum_cong q k _ (λ l. sum_below k (λ j. coefficient₂ f j l * x ^ j) * y ^ l)
-      (λ l hl. ap (λ t. (t * y ^ l) % q) (alongY-at k small q f x l hl) ∙ mod-mul-mod _ (y ^ l) q)
+      (λ l hl. ap (λ t. (t * y ^ l) % q) (along_y_at k small q f x l hl) ∙ mod-mul-mod _ (y ^ l) q)
       ∙ ap (λ t. t % q) (sym (sum_columns k k (λ j. x ^ j) (λ l. y ^ l) (coefficient₂ f)))
 
   along_x_lem : (x y : ℕ) → value_at q k (along_x q k f y) x ≡ at x y
   unfolding value_at
   along_x_lem x y =
       sum_cong q k _ (λ j. sum_below k (λ l. coefficient₂ f j l * y ^ l) * x ^ j)
-      (λ j hj. ap (λ t. (t * x ^ j) % q) (alongX-at k small q f y j hj) ∙ mod-mul-mod _ (x ^ j) q)
+      (λ j hj. ap (λ t. (t * x ^ j) % q) (along_x_at k small q f y j hj) ∙ mod-mul-mod _ (x ^ j) q)
       ∙ ap (λ t. t % q) (sym (sum_rows k k (λ j. x ^ j) (λ l. y ^ l) (coefficient₂ f)))
 
   -- a of box x at y is b of box y at x.
@@ -87,7 +87,7 @@ module _ (k : ℕ) (small : k ≤ 8) (q : ℕ) (f : List (List Exponent)) where
   pub first_value : 0 < k → value_at q k (along_x q k f 0) 0 ≡ coefficient₂ f 0 0 % q
   first_value l =
       value_nought q k (along_x q k f 0) l
-      ∙ ap (λ t. t % q) (alongX-at k small q f 0 0 l ∙ ap (λ t. t % q) (sum_nought k (coefficient₂ f 0) l))
+      ∙ ap (λ t. t % q) (along_x_at k small q f 0 0 l ∙ ap (λ t. t % q) (sum_nought k (coefficient₂ f 0) l))
       ∙ mod-mod (coefficient₂ f 0 0) q
 
 -- ---- the coins

@@ -37,15 +37,15 @@ now_heard x tag m S within =
     let l = within.low in
     let h = within.high in
     record {
-      there = rw (get_or-set_same x.heard (tag - 1) (mark row m) no_marks in-heard) (get_or-set_same row.at m true false in_row);
+      there = rw (get_or-set_same x.heard (tag - 1) (mark row m) no_marks in_heard) (get_or-set_same row.at m true false in_row);
       elsewhere = λ tag' m' l' ne. other tag' m' ne (ℕ_discrete (tag' - 1) (tag - 1)) (λ e. omega arith);
     }
   where
     row : Marks
     row = get_or x.heard (tag - 1) no_marks
 
-    in-heard : tag - 1 < length x.heard
-    in-heard = let h = within.high in rw S.heard (omega arith)
+    in_heard : tag - 1 < length x.heard
+    in_heard = let h = within.high in rw S.heard (omega arith)
 
     in_row : m < length row.at
     in_row = let h = within.high in let b = within.place in rw (S.marks (tag - 1) (omega arith)) b
@@ -53,7 +53,7 @@ now_heard x tag m S within =
     other : (tag' m' : ℕ) → (tag' ≡ tag → m' ≡ m → ⊥) → Dec (tag' - 1 ≡ tag - 1) → (tag' - 1 ≡ tag - 1 → tag' ≡ tag)
         → marked (get_or (set x.heard (tag - 1) (mark row m)) (tag' - 1) no_marks) m' ≡ heard_for x tag' m'
     other tag' m' ne (yes e) up =
-        rw (e, get_or-set_same x.heard (tag - 1) (mark row m) no_marks in-heard) (get_or-set_other row.at m m' true false (ne (up e)))
+        rw (e, get_or-set_same x.heard (tag - 1) (mark row m) no_marks in_heard) (get_or-set_other row.at m m' true false (ne (up e)))
     other tag' m' ne (no e) up = rw (get_or-set_other x.heard (tag - 1) (tag' - 1) (mark row m) no_marks e)
 
 -- it goes by the ears alone
@@ -134,7 +134,7 @@ module _ (x : Record) (S : Shaped x) (sender : ℕ) (bytes buffer : List ℕ) wh
       ⊎ (Heard d.outcome.answer.no (tag_in bytes) × OneMark x d.outcome.next (tag_in bytes) (sender - 1))
   unfolding deliver answered
   refusal_leaves z =
-      ⊎_elim (λ t. inr (heard-then (test_heard _ (tag_in bytes) t)))
+      ⊎_elim (λ t. inr (heard_then (test_heard _ (tag_in bytes) t)))
       (λ f.
       let unheard : Heard d.outcome.answer.no (tag_in bytes) → ⊥ =
       λ h. true≢false (sym (heard_test d.outcome.answer.no (tag_in bytes) h) ∙ f) in
@@ -147,9 +147,9 @@ module _ (x : Record) (S : Shaped x) (sender : ℕ) (bytes buffer : List ℕ) wh
           marked_hearing x sender bytes (length buffer) (deliver_marks x sender bytes (length buffer)
           ∙ heard_test n (tag_in bytes) (subst (λ (v : ℕ). Heard v (tag_in bytes)) (outcome_number n _ _) h))
 
-      heard-then : Heard d.outcome.answer.no (tag_in bytes)
+      heard_then : Heard d.outcome.answer.no (tag_in bytes)
           → Heard d.outcome.answer.no (tag_in bytes) × OneMark x d.outcome.next (tag_in bytes) (sender - 1)
-      heard-then h = (
+      heard_then h = (
         h,
         subst (λ (y : Record). OneMark x y (tag_in bytes) (sender - 1)) (sym (deliver_heard x sender bytes buffer h).next)
             (one_mark x (tag_in bytes) (sender - 1) S (has_mark x sender bytes (hearing h))),

@@ -8,7 +8,7 @@ use native.Mathlib.Omega.{arith}
 use Rattle.std.proofs.Math.ListN.{length}
 use Rattle.std.proofs.Math.Seq.{take-append_seam}
 use Rattle.folds.specs.Tests.{pick, and_right}
-use Rattle.folds.specs.Runs.{gather, length-gather, length-gather-le, stands-piece}
+use Rattle.folds.specs.Runs.{gather, length-gather, length-gather_le, stands_piece}
 use Rattle.rules.specs.declared.Exponent.{Exponent}
 use Rattle.rules.specs.declared.Element.{Element}
 use Rattle.rules.specs.declared.Four.{Four}
@@ -112,7 +112,7 @@ piece_to_each u f tag same j a b =
     let w : ℕ = whole_length u tag in
     let each : (i : ℕ) → length (bytes_of u (f (i + 1))) ≡ w =
     λ i. length_message u (f (i + 1)) ∙ ap (λ v. whole_length u v) (same (i + 1)) in
-    let piece = stands-piece run (λ i. bytes_of u (f (i + 1))) w each 0 u.n (j - 1) (omega arith) ([], sym (append-nil run)) in
+    let piece = stands_piece run (λ i. bytes_of u (f (i + 1))) w each 0 u.n (j - 1) (omega arith) ([], sym (append-nil run)) in
     let at : (j - 1) * w ≡ 0 + (j - 1) * w = omega arith in
     let back : j - 1 + 1 ≡ j = omega arith in
     ap (λ v. take w (drop v run)) at
@@ -124,7 +124,7 @@ piece_to_each u f tag same j a b =
 pub to_each_room : (u : SetUp) (f : ℕ → Message) → u.n ≤ 10 → u.k ≤ 8 → length (to_each u f) ≤ 1990
 unfolding to_each
 to_each_room u f hn hk =
-    omega (arith, length-gather-le (λ j. bytes_of u (f (j + 1))) 199 (λ j. length_message_le u (f (j + 1)) hk) u.n)
+    omega (arith, length-gather_le (λ j. bytes_of u (f (j + 1))) 199 (λ j. length_message_le u (f (j + 1)) hk) u.n)
 
 abbrev Room : Step → Type 0
 Room x = length x.bytes ≤ 1990

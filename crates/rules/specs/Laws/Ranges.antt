@@ -29,11 +29,11 @@ use Rattle.rules.specs.Dealing.{committed, commitment, along_y, along_x, polynom
 use Rattle.rules.specs.Record.{no_row, row_at, matrix_of, entries_zero}
 use Rattle.rules.specs.Laws.Numbers.{group_rule, group_sizes}
 use Rattle.rules.specs.Laws.Matrices.{row_at_lem, row-length, row_zero, matrix_height, matrix_filled, matrix_empty, entry_at}
-use Rattle.rules.specs.Laws.Checks.{entry-below, four_lows, pair_lows}
+use Rattle.rules.specs.Laws.Checks.{entry_below, four_lows, pair_lows}
 use Rattle.rules.specs.Laws.Shape.{ShapedSlot}
 use Rattle.rules.specs.Laws.RoundTrip.{MatrixFits, PolynomialFits, PolynomialsFit, FourFits, PairFits, matrix-fits, polynomial_fits}
 
--- for set-up numbers whose group keeps its rule, with k ≤ 8
+-- for set_up_lem numbers whose group keeps its rule, with k ≤ 8
 module _ (u : SetUp) (keeps : group_keeps u ≡ true) (high : u.k ≤ 8) where
   abbrev group : Group
   group = group_of u.group
@@ -62,7 +62,7 @@ module _ (u : SetUp) (keeps : group_keeps u ≡ true) (high : u.k ≤ 8) where
 
   -- entries that pass refusal 8 are below p
   entry_small : (C : List (List Element)) → matrix_passes group u.k C ≡ true → (j l : ℕ) → j < u.k → l < u.k → entry C j l < 65536
-  entry_small C passes j l hj hl = let a = entry-below group u.k C passes j l hj hl in let b = (group_sizes u keeps).modulus_small in omega arith
+  entry_small C passes j l hj hl = let a = entry_below group u.k C passes j l hj hl in let b = (group_sizes u keeps).modulus_small in omega arith
 
   pub read_room : (bytes : List ℕ) → matrix_passes group u.k (matrix_in u bytes) ≡ true → MatrixFits u.k (matrix_in u bytes)
   unfolding matrix_in
@@ -74,9 +74,9 @@ module _ (u : SetUp) (keeps : group_keeps u ≡ true) (high : u.k ≤ 8) where
     abbrev held : List (List Element)
     held = matrix_of slot
 
-    held-width : (j : ℕ) → j < 8 → length (get_or held j []) ≡ 8
+    held_width : (j : ℕ) → j < 8 → length (get_or held j []) ≡ 8
     unfolding matrix_of
-    held-width j l = ap length (get_or-map row_at slot.rows j no_row) ∙ shape.row j l
+    held_width j l = ap length (get_or-map row_at slot.rows j no_row) ∙ shape.row j l
 
     -- outside the first k rows and columns all is zero
     outside : (j l : ℕ) → j < 8 → l < 8 → ltb j u.k and ltb l u.k ≡ false → get_or (get_or held j []) l (element 0) ≡ element 0
@@ -91,8 +91,8 @@ module _ (u : SetUp) (keeps : group_keeps u ≡ true) (high : u.k ≤ 8) where
     abbrev made : ℕ → ℕ → Element
     made j l = element (entry held j l)
 
-    row-form : (j : ℕ) → j < 8 → get_or held j [] ≡ get_or (matrix u.k (element 0) made) j []
-    row-form j hj = go (dec_lt j u.k)
+    row_form : (j : ℕ) → j < 8 → get_or held j [] ≡ get_or (matrix u.k (element 0) made) j []
+    row_form j hj = go (dec_lt j u.k)
       where
         inside : (l : ℕ) → l < 8 → Dec (l < u.k) → get_or (get_or held j []) l (element 0) ≡ get_or (row u.k (element 0) (made j)) l (element 0)
         inside l hl (yes h) = sym (row_at_lem u.k (element 0) (made j) high l h)
@@ -102,32 +102,32 @@ module _ (u : SetUp) (keeps : group_keeps u ≡ true) (high : u.k ≤ 8) where
 
         go : Dec (j < u.k) → get_or held j [] ≡ get_or (matrix u.k (element 0) made) j []
         go (yes h) =
-            let n = held-width j hj in
+            let n = held_width j hj in
             ext_get_or (element 0) (get_or held j []) (row u.k (element 0) (made j)) (n ∙ sym (row-length u.k (element 0) (made j)))
             (λ l hl. inside l (omega arith) (dec_lt l u.k))
             ∙ sym (matrix_filled u.k (element 0) made j hj h)
         go (no h) =
-            let n = held-width j hj in
+            let n = held_width j hj in
             ext_get_or (element 0) (get_or held j []) (replicate 8 (element 0)) n
             (λ l hl. outside j l hj (omega arith) (ap (λ b. b and ltb l u.k) (le-ltb j u.k (omega arith)))
             ∙ sym (get_or-replicate 8 l (element 0) (element 0) (omega arith)))
             ∙ sym (matrix_empty u.k (element 0) made j hj (omega arith))
 
-    pub slot-room : matrix_passes group u.k (matrix_of slot) ≡ true → MatrixFits u.k (matrix_of slot)
+    pub slot_room : matrix_passes group u.k (matrix_of slot) ≡ true → MatrixFits u.k (matrix_of slot)
     unfolding matrix_of
-    slot-room passes =
+    slot_room passes =
         let n : length (matrix_of slot) ≡ 8 = length-map slot.rows row_at ∙ shape.rows in
         record {
           small = entry_small (matrix_of slot) passes;
-          form = ext_get_or [] held (matrix u.k (element 0) made) (n ∙ sym (matrix_height u.k (element 0) made)) (λ j lt. row-form j (omega arith));
+          form = ext_get_or [] held (matrix u.k (element 0) made) (n ∙ sym (matrix_height u.k (element 0) made)) (λ j lt. row_form j (omega arith));
         }
 
   -- ---- what is dealt
 
   module _ (f f' : List (List Exponent)) where
-    pub dealt-room : MatrixFits u.k (commitment group u.k f f')
+    pub dealt_room : MatrixFits u.k (commitment group u.k f f')
     unfolding commitment committed
-    dealt-room =
+    dealt_room =
         matrix-fits u.k _ high (λ j l hj hl.
         let small = (group_sizes u keeps).modulus_small in
         let big = (group_rule u keeps).p_prime.big in
@@ -135,6 +135,6 @@ module _ (u : SetUp) (keeps : group_keeps u ≡ true) (high : u.k ≤ 8) where
         let low : c % group.p < group.p = mod-lt c (omega arith) in
         omega arith)
 
-    pub dealt-rooms : (j : ℕ) → PolynomialsFit u.k (polynomials_of group.q u.k f f' j)
+    pub dealt_rooms : (j : ℕ) → PolynomialsFit u.k (polynomials_of group.q u.k f f' j)
     unfolding polynomials_of along_y along_x
-    dealt-rooms j = record { a = remainders_room _; a2 = remainders_room _; b = remainders_room _; b2 = remainders_room _ }
+    dealt_rooms j = record { a = remainders_room _; a2 = remainders_room _; b = remainders_room _; b2 = remainders_room _ }

@@ -16,7 +16,7 @@ use native.Mathlib.Omega.{arith}
 use Rattle.std.proofs.Math.ListN.{length, get_or, get_or-eq_default}
 use borrow.Author.Tests.{ne_eqb, ltb-false, leb-true, eqb-true, le-ltb, le-leb, eq-eqb, not-false}
 use Rattle.folds.specs.Tests.{◌and◌, and_left, and_right, and_intro, or_false, or_none_lem, and_rest, and_not}
-use Rattle.folds.specs.Runs.{gather, Stands, stands_at, stands_left, stands_right, stands_both, stands-piece, stands-gather, stands_reads, stands_element, stands_is, stands-apart, stands-together, every_nil, every_cons, every_append, every_gather}
+use Rattle.folds.specs.Runs.{gather, Stands, stands_at, stands_left, stands_right, stands_both, stands_piece, stands_gather, stands_reads, stands_element, stands_is, stands_apart, stands_together, every_nil, every_cons, every_append, every_gather}
 use Rattle.rules.specs.declared.Exponent.{Exponent}
 use Rattle.rules.specs.declared.Element.{Element}
 use Rattle.rules.specs.declared.Four.{Four}
@@ -60,7 +60,7 @@ module _ (s : List ℕ) where
   unfolding two_bytes
   numbers_read p n v g l h small =
       word_reads (p + 2 * l) (v l) small
-      (stands_at s (p + l * 2) (p + 2 * l) (two_bytes (v l)) (omega arith) (stands-piece s (λ i. two_bytes (v i)) 2 (λ i. refl) p n l h g))
+      (stands_at s (p + l * 2) (p + 2 * l) (two_bytes (v l)) (omega arith) (stands_piece s (λ i. two_bytes (v i)) 2 (λ i. refl) p n l h g))
 
   matrix_reads : (p k : ℕ) (C : List (List Element)) → Stands s p (matrix_bytes k C) → (j l : ℕ) → j < k → l < k → entry C j l < 65536
       → word s (p + 2 * (j * k + l)) ≡ entry C j l
@@ -69,12 +69,12 @@ module _ (s : List ℕ) where
       let e : p + 2 * (j * k + l) ≡ p + j * (k * 2) + 2 * l = omega arith in
       ap (word s) e
       ∙ numbers_read (p + j * (k * 2)) k (entry C j)
-      (stands-piece s (λ i. gather k (λ n. two_bytes (entry C i n))) (k * 2) (λ i. length-numbers (entry C i) k) p k j hj g) l hl small
+      (stands_piece s (λ i. gather k (λ n. two_bytes (entry C i n))) (k * 2) (λ i. length-numbers (entry C i) k) p k j hj g) l hl small
 
   -- and what is read stands there
   module _ (b : Bytes s) where
-    byte-at : (i : ℕ) → get_or s i 0 < 256
-    byte-at i = go (dec_lt i (length s))
+    byte_at_lem : (i : ℕ) → get_or s i 0 < 256
+    byte_at_lem i = go (dec_lt i (length s))
       where
         go : Dec (i < length s) → get_or s i 0 < 256
         go (yes l) = b i l
@@ -82,43 +82,43 @@ module _ (s : List ℕ) where
 
     word_small : (p : ℕ) → word s p < 65536
     unfolding word
-    word_small p = omega (arith, byte-at p, byte-at (p + 1))
+    word_small p = omega (arith, byte_at_lem p, byte_at_lem (p + 1))
 
     word_stands : (p : ℕ) → p + 1 < length s → Stands s p (two_bytes (word s p))
     unfolding word two_bytes
     word_stands p l =
-        let high : (get_or s p 0 * 256 + get_or s (p + 1) 0) / 256 % 256 ≡ get_or s p 0 = omega (arith, byte-at p, byte-at (p + 1)) in
-        let low : (get_or s p 0 * 256 + get_or s (p + 1) 0) % 256 ≡ get_or s (p + 1) 0 = omega (arith, byte-at p, byte-at (p + 1)) in
+        let high : (get_or s p 0 * 256 + get_or s (p + 1) 0) / 256 % 256 ≡ get_or s p 0 = omega (arith, byte_at_lem p, byte_at_lem (p + 1)) in
+        let low : (get_or s p 0 * 256 + get_or s (p + 1) 0) % 256 ≡ get_or s (p + 1) 0 = omega (arith, byte_at_lem p, byte_at_lem (p + 1)) in
         rw (high, low)
         (stands_both s p 1 (get_or s p 0 ∷ []) (get_or s (p + 1) 0 ∷ []) refl (stands_element s p 0 (omega arith)) (stands_element s (p + 1) 0 l))
 
-    numbers-stand : (p n : ℕ) (v : ℕ → ℕ) → p + 2 * n ≤ length s → ((l : ℕ) → l < n → v l ≡ word s (p + 2 * l)) → Stands s p (gather n (λ l. two_bytes (v l)))
+    numbers_stand : (p n : ℕ) (v : ℕ → ℕ) → p + 2 * n ≤ length s → ((l : ℕ) → l < n → v l ≡ word s (p + 2 * l)) → Stands s p (gather n (λ l. two_bytes (v l)))
     unfolding two_bytes
-    numbers-stand p n v room h =
-        stands-gather s (λ i. two_bytes (v i)) 2 (λ i. refl) p n (λ l lt.
+    numbers_stand p n v room h =
+        stands_gather s (λ i. two_bytes (v i)) 2 (λ i. refl) p n (λ l lt.
         stands_at s (p + 2 * l) (p + l * 2) (two_bytes (v l)) (omega arith)
         (subst (λ (x : ℕ). Stands s (p + 2 * l) (two_bytes x)) (sym (h l lt)) (word_stands (p + 2 * l) (omega arith))))
 
-    matrix-stands : (p k : ℕ) (C : List (List Element)) → p + 2 * (k * k) ≤ length s
+    matrix_stands : (p k : ℕ) (C : List (List Element)) → p + 2 * (k * k) ≤ length s
         → ((j l : ℕ) → j < k → l < k → entry C j l ≡ word s (p + 2 * (j * k + l))) → Stands s p (matrix_bytes k C)
     unfolding matrix_bytes
-    matrix-stands p k C room h =
-        stands-gather s (λ i. gather k (λ n. two_bytes (entry C i n))) (k * 2) (λ i. length-numbers (entry C i) k) p k (λ j hj.
+    matrix_stands p k C room h =
+        stands_gather s (λ i. gather k (λ n. two_bytes (entry C i n))) (k * 2) (λ i. length-numbers (entry C i) k) p k (λ j hj.
         let within : suc j * (k * 2) ≤ k * (k * 2) = mul-le-mul_right (k * 2) hj in
-        numbers-stand (p + j * (k * 2)) k (entry C j) (omega arith) (λ l hl.
+        numbers_stand (p + j * (k * 2)) k (entry C j) (omega arith) (λ l hl.
         let e : p + 2 * (j * k + l) ≡ p + j * (k * 2) + 2 * l = omega arith in
         h j l hj hl ∙ ap (word s) e))
 
     -- a byte and a number behind it
-    byte-word-stand : (p x y : ℕ) → p + 2 < length s → get_or s p 0 ≡ x → word s (p + 1) ≡ y → Stands s p (x ∷ two_bytes y)
-    byte-word-stand p x y l e f =
+    byte_word_stand : (p x y : ℕ) → p + 2 < length s → get_or s p 0 ≡ x → word s (p + 1) ≡ y → Stands s p (x ∷ two_bytes y)
+    byte_word_stand p x y l e f =
         stands_both s p 1 (x ∷ []) (two_bytes y) refl
         (subst (λ (v : ℕ). Stands s p (v ∷ [])) e (stands_element s p 0 (omega arith)))
         (subst (λ (v : ℕ). Stands s (p + 1) (two_bytes v)) f (word_stands (p + 1) (omega arith)))
 
 -- ---- messages in range
 
--- the set-up numbers that stand in a message have room there
+-- the set_up_lem numbers that stand in a message have room there
 pub record SetUpFits (u : SetUp) : Type 0 where
   pub k : u.k ≤ 8
   pub d : u.d < 256
@@ -205,7 +205,7 @@ module _ (u : SetUp) (s : List ℕ) where
   unfolding polynomials_in polynomial_bytes
   polynomials_in_is P c g =
       let e : ℕ = 7 + 2 * (k * k) in
-      let g₄ = stands-apart s e (e + 2 * k) (e + 4 * k) (e + 6 * k) (2 * k) refl (omega arith) (omega arith)
+      let g₄ = stands_apart s e (e + 2 * k) (e + 4 * k) (e + 6 * k) (2 * k) refl (omega arith) (omega arith)
       (coefficient_bytes k P.a) (coefficient_bytes k P.a2) (coefficient_bytes k P.b) (coefficient_bytes k P.b2)
       (length-coefficients k P.a) (length-coefficients k P.a2) (length-coefficients k P.b) g in
       λ i. record {
@@ -219,7 +219,7 @@ module _ (u : SetUp) (s : List ℕ) where
   unfolding four_in four_bytes two_bytes
   four_in_is f c g =
       let e : ℕ = 7 + 2 * (k * k) in
-      let g₄ = stands-apart s e (e + 2) (e + 4) (e + 6) 2 (omega arith) (omega arith) (omega arith)
+      let g₄ = stands_apart s e (e + 2) (e + 4) (e + 6) 2 (omega arith) (omega arith) (omega arith)
       (two_bytes (α f)) (two_bytes (α' f)) (two_bytes (β f)) (two_bytes (β' f)) refl refl refl g in
       λ i. record {
         alpha = exponent (word_reads s e (α f) c.alpha g₄.0 i);
@@ -241,57 +241,57 @@ module _ (u : SetUp) (s : List ℕ) where
   -- what is read is in range, and stands
 
   module _ (b : Bytes s) (h : k ≤ 8) where
-    matrixIn-fits : MatrixFits k (matrix_in u s)
+    matrix_in_fits : MatrixFits k (matrix_in u s)
     unfolding matrix_in
-    matrixIn-fits = matrix-fits k (λ j l. word s (7 + 2 * (j * k + l))) h (λ j l hj hl. word_small s b _)
+    matrix_in_fits = matrix-fits k (λ j l. word s (7 + 2 * (j * k + l))) h (λ j l hj hl. word_small s b _)
 
-    matrixIn-stands : 7 + 2 * (k * k) ≤ length s → Stands s 7 (matrix_bytes k (matrix_in u s))
+    matrix_in_stands : 7 + 2 * (k * k) ≤ length s → Stands s 7 (matrix_bytes k (matrix_in u s))
     unfolding matrix_in
-    matrixIn-stands room = matrix-stands s b 7 k (matrix_in u s) room (entry_at k (λ j l. word s (7 + 2 * (j * k + l))) h)
+    matrix_in_stands room = matrix_stands s b 7 k (matrix_in u s) room (entry_at k (λ j l. word s (7 + 2 * (j * k + l))) h)
 
-    coefficientsIn-fit : (p : ℕ) → PolynomialFits k (coefficients_in k s p)
+    coefficients_in_fit : (p : ℕ) → PolynomialFits k (coefficients_in k s p)
     unfolding coefficients_in
-    coefficientsIn-fit p = polynomial_fits k (λ l. word s (p + 2 * l)) h (λ l hl. word_small s b _)
+    coefficients_in_fit p = polynomial_fits k (λ l. word s (p + 2 * l)) h (λ l hl. word_small s b _)
 
-    coefficientsIn-stand : (p : ℕ) → p + 2 * k ≤ length s → Stands s p (coefficient_bytes k (coefficients_in k s p))
+    coefficients_in_stand : (p : ℕ) → p + 2 * k ≤ length s → Stands s p (coefficient_bytes k (coefficients_in k s p))
     unfolding coefficient_bytes coefficients_in
-    coefficientsIn-stand p room = numbers-stand s b p k (coefficient (coefficients_in k s p)) room (coefficient_at k (λ l. word s (p + 2 * l)) h)
+    coefficients_in_stand p room = numbers_stand s b p k (coefficient (coefficients_in k s p)) room (coefficient_at k (λ l. word s (p + 2 * l)) h)
 
-    polynomialsIn-fit : PolynomialsFit k (polynomials_in u s)
+    polynomials_in_fit : PolynomialsFit k (polynomials_in u s)
     unfolding polynomials_in
-    polynomialsIn-fit = record { a = coefficientsIn-fit _; a2 = coefficientsIn-fit _; b = coefficientsIn-fit _; b2 = coefficientsIn-fit _ }
+    polynomials_in_fit = record { a = coefficients_in_fit _; a2 = coefficients_in_fit _; b = coefficients_in_fit _; b2 = coefficients_in_fit _ }
 
-    polynomialsIn-stand : 7 + 2 * (k * k) + 8 * k ≤ length s → Stands s (7 + 2 * (k * k)) (polynomial_bytes u (polynomials_in u s))
+    polynomials_in_stand : 7 + 2 * (k * k) + 8 * k ≤ length s → Stands s (7 + 2 * (k * k)) (polynomial_bytes u (polynomials_in u s))
     unfolding polynomials_in polynomial_bytes
-    polynomialsIn-stand room =
+    polynomials_in_stand room =
         let e : ℕ = 7 + 2 * (k * k) in
-        stands-together s e (e + 2 * k) (e + 4 * k) (e + 6 * k) (2 * k) refl (omega arith) (omega arith)
+        stands_together s e (e + 2 * k) (e + 4 * k) (e + 6 * k) (2 * k) refl (omega arith) (omega arith)
         (coefficient_bytes k (coefficients_in k s e)) (coefficient_bytes k (coefficients_in k s (e + 2 * k)))
         (coefficient_bytes k (coefficients_in k s (e + 4 * k))) (coefficient_bytes k (coefficients_in k s (e + 6 * k)))
         (length-coefficients k _) (length-coefficients k _) (length-coefficients k _)
-        (coefficientsIn-stand e (omega arith)) (coefficientsIn-stand (e + 2 * k) (omega arith))
-        (coefficientsIn-stand (e + 4 * k) (omega arith)) (coefficientsIn-stand (e + 6 * k) (omega arith))
+        (coefficients_in_stand e (omega arith)) (coefficients_in_stand (e + 2 * k) (omega arith))
+        (coefficients_in_stand (e + 4 * k) (omega arith)) (coefficients_in_stand (e + 6 * k) (omega arith))
 
-    fourIn-fits : FourFits (four_in u s)
+    four_in_fits : FourFits (four_in u s)
     unfolding four_in
-    fourIn-fits = record { alpha = word_small s b _; alpha2 = word_small s b _; beta = word_small s b _; beta2 = word_small s b _ }
+    four_in_fits = record { alpha = word_small s b _; alpha2 = word_small s b _; beta = word_small s b _; beta2 = word_small s b _ }
 
-    fourIn-stands : 15 + 2 * (k * k) ≤ length s → Stands s (7 + 2 * (k * k)) (four_bytes (four_in u s))
+    four_in_stands : 15 + 2 * (k * k) ≤ length s → Stands s (7 + 2 * (k * k)) (four_bytes (four_in u s))
     unfolding four_in four_bytes two_bytes
-    fourIn-stands room =
+    four_in_stands room =
         let e : ℕ = 7 + 2 * (k * k) in
-        stands-together s e (e + 2) (e + 4) (e + 6) 2 (omega arith) (omega arith) (omega arith)
+        stands_together s e (e + 2) (e + 4) (e + 6) 2 (omega arith) (omega arith) (omega arith)
         (two_bytes (word s e)) (two_bytes (word s (e + 2))) (two_bytes (word s (e + 4))) (two_bytes (word s (e + 6))) refl refl refl
         (word_stands s b e (omega arith)) (word_stands s b (e + 2) (omega arith))
         (word_stands s b (e + 4) (omega arith)) (word_stands s b (e + 6) (omega arith))
 
-    pairIn-fits : PairFits (pair_in s)
+    pair_in_fits : PairFits (pair_in s)
     unfolding pair_in
-    pairIn-fits = record { first = word_small s b _; second = word_small s b _ }
+    pair_in_fits = record { first = word_small s b _; second = word_small s b _ }
 
-    pairIn-stands : 10 ≤ length s → Stands s 6 (pair_bytes (pair_in s))
+    pair_in_stands : 10 ≤ length s → Stands s 6 (pair_bytes (pair_in s))
     unfolding pair_in pair_bytes two_bytes
-    pairIn-stands room =
+    pair_in_stands room =
         stands_both s 6 2 (two_bytes (word s 6)) (two_bytes (word s 8)) refl (word_stands s b 6 (omega arith)) (word_stands s b 8 (omega arith))
 
 -- ---- a message by its tag
@@ -436,7 +436,7 @@ point_stands : (u : SetUp) (s : List ℕ) → Bytes s → u.k ≤ 8 → get_or s
     → Stands s 6 (u.k ∷ matrix_bytes u.k (matrix_in u s) ++ four_bytes (four_in u s))
 point_stands u s b h e n =
     body_stands u.k s (matrix_in u s) (four_bytes (four_in u s)) e (omega arith)
-    (matrixIn-stands u s b h (omega arith)) (fourIn-stands u s b h (omega arith))
+    (matrix_in_stands u s b h (omega arith)) (four_in_stands u s b h (omega arith))
 
 -- what s says is read
 message_read : (u : SetUp) (s : List ℕ) (m : Message) → Says u s m → message_in u s ≡ m
@@ -460,15 +460,15 @@ message_says u s b h c = go (tag_in s) refl c.low c.high c.whole
         rw e (record {
           tag = e;
           body = body_stands u.k s (matrix_in u s) (polynomial_bytes u (polynomials_in u s)) (c.k_byte (omega arith)) (omega arith)
-              (matrixIn-stands u s b h (omega arith)) (polynomialsIn-stand u s b h (omega arith));
-          fits = (matrixIn-fits u s b h, polynomialsIn-fit u s b h);
+              (matrix_in_stands u s b h (omega arith)) (polynomials_in_stand u s b h (omega arith));
+          fits = (matrix_in_fits u s b h, polynomials_in_fit u s b h);
         })
     go (suc (suc zero)) e low high n =
-        rw e (record { tag = e; body = point_stands u s b h (c.k_byte (omega arith)) n; fits = (matrixIn-fits u s b h, fourIn-fits u s b h) })
+        rw e (record { tag = e; body = point_stands u s b h (c.k_byte (omega arith)) n; fits = (matrix_in_fits u s b h, four_in_fits u s b h) })
     go (suc (suc (suc zero))) e low high n =
-        rw e (record { tag = e; body = point_stands u s b h (c.k_byte (omega arith)) n; fits = (matrixIn-fits u s b h, fourIn-fits u s b h) })
+        rw e (record { tag = e; body = point_stands u s b h (c.k_byte (omega arith)) n; fits = (matrix_in_fits u s b h, four_in_fits u s b h) })
     go (suc (suc (suc (suc zero)))) e low high n =
-        rw e (record { tag = e; body = pairIn-stands u s b h (omega arith); fits = pairIn-fits u s b h })
+        rw e (record { tag = e; body = pair_in_stands u s b h (omega arith); fits = pair_in_fits u s b h })
     go (suc (suc (suc (suc (suc t))))) e low high n = absurd (omega arith)
 
 -- ---- the round trip, there
@@ -587,9 +587,9 @@ unfolding bytes_of framed two_bytes
 whole_stands u s m b n tag size head body =
     let rest : List ℕ = u.d ∷ two_bytes u.session ++ body_of u m in
     stands_both s 0 3 (tag_of m ∷ two_bytes (length rest)) rest refl
-    (byte-word-stand s b 0 (tag_of m) (length rest) (omega arith) tag (omega arith))
+    (byte_word_stand s b 0 (tag_of m) (length rest) (omega arith) tag (omega arith))
     (stands_both s 3 3 (u.d ∷ two_bytes u.session) (body_of u m) refl
-    (byte-word-stand s b 3 u.d u.session (omega arith) head.0 head.1) body)
+    (byte_word_stand s b 3 u.d u.session (omega arith) head.0 head.1) body)
 
 -- Whatever is read is in range.
 pub message_fits : (u : SetUp) (s : List ℕ) → Bytes s → u.k ≤ 8 → malformed u s ≡ false → Fits u (message_in u s)

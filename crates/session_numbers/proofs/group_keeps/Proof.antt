@@ -4,7 +4,7 @@ use Rattle.rules.specs.Numbers.{group_keeps}
 use Rattle.session_numbers.proofs.group_keeps.Statement.{statement}
 use Rattle.session_numbers.proofs.group_keeps.Tie as tie
 
-pub group-keeps-spec : {M : Type 1} → statement M
+pub group_keeps_spec : {M : Type 1} → statement M
 unfolding group_keeps
-group-keeps-spec =
-    tie.close (tie.spec (λ c. rw (eq-eqb _ 1 c.if1.true)) (λ c. rw (ne_eqb _ 1 c.before.if1.false)))
+group_keeps_spec =
+    tie.close (tie.spec (λ c. rw (eq-eqb _ 1 c.if-u-eq1.true)) (λ c. rw (ne_eqb _ 1 c.before.if-u-eq1.false)))

@@ -6,13 +6,13 @@ use Rattle.rules.specs.Numbers.{group_of, group_keeps}
 use Rattle.session_numbers.proofs.group_of.Statement.{statement}
 use Rattle.session_numbers.proofs.group_of.Tie as tie
 
-pub group-of-spec : {M : Type 1} → statement M
+pub group_of_spec : {M : Type 1} → statement M
 unfolding group_of group_keeps
-group-of-spec =
+group_of_spec =
     tie.close
     (tie.spec
     (λ c κs. search rules)
-    (λ c. c.at.ensures ∙ ap group_of (sym c.before.if1.true))
+    (λ c. c.at.ensures ∙ ap group_of (sym c.before.if-u-eq1.true))
     (λ c κs. search rules)
-    (λ c. c.at2.ensures
-    ∙ ap group_of (sym (eqb-true _ 2 (rw (ne_eqb _ 1 c.before.if1.false) at c.before.before.before.requires)))))
+    (λ c. c.at-2.ensures
+    ∙ ap group_of (sym (eqb-true _ 2 (rw (ne_eqb _ 1 c.before.if-u-eq1.false) at c.before.before.before.requires)))))

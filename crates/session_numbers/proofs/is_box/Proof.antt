@@ -4,7 +4,7 @@ use Rattle.rules.specs.Numbers.{is_box}
 use Rattle.session_numbers.proofs.is_box.Statement.{statement}
 use Rattle.session_numbers.proofs.is_box.Tie as tie
 
-pub is-box-spec : {M : Type 1} → statement M
+pub is_box_spec : {M : Type 1} → statement M
 unfolding is_box
-is-box-spec =
-    tie.close (tie.spec (λ c. rw (lt-leb 1 _ c.if1.true)) (λ c. rw (le-leb 1 _ c.before.if1.false)))
+is_box_spec =
+    tie.close (tie.spec (λ c. rw (lt-leb 1 _ c.if-m-lt1.true)) (λ c. rw (le-leb 1 _ c.before.if-m-lt1.false)))

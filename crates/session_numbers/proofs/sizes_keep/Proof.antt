@@ -19,20 +19,20 @@ last-rule n t k a b c = rw (le-leb n 10 a, le-leb 1 t b, lt-ltb t k c)
 no-rest : (n t k : ℕ) → n ≤ 10 → 1 ≤ t → t < k → n ≤ 2 * t → false ≡ sizes_keep n t k
 no-rest n t k a b c d = rw (last-rule n t k a b c, lt-leb k (n - 2 * t) (omega arith))
 
-returns-4 : tie.Need-returns-4
+returns-4 : tie.Need-returns-then-n-t
 returns-4 c = no-rest _ _ _ (omega arith) (omega arith) (omega arith) (omega arith)
 
-returns-5 : tie.Need-returns-5
+returns-5 : tie.Need-returns-then-n-t-2
 returns-5 c = no-rest _ _ _ (omega arith) (omega arith) (omega arith) (omega arith)
 
-pub sizes-keep-spec : {M : Type 1} → statement M
+pub sizes_keep_spec : {M : Type 1} → statement M
 unfolding sizes_keep
-sizes-keep-spec =
+sizes_keep_spec =
     tie.close
     (tie.spec
-    (λ c. rw (lt-leb _ 10 c.if1.true))
-    (λ c. rw (le-leb _ 10 c.before.if1.false, lt-leb 1 _ c.if2.true))
-    (λ c. rw (le-leb _ 10 c.before.before.if1.false, le-leb 1 _ c.before.if2.false, le-ltb _ _ c.if3.true))
+    (λ c. rw (lt-leb _ 10 c.if-n-gt-BOXES.true))
+    (λ c. rw (le-leb _ 10 c.before.if-n-gt-BOXES.false, lt-leb 1 _ c.if-t-lt1.true))
+    (λ c. rw (le-leb _ 10 c.before.before.if-n-gt-BOXES.false, le-leb 1 _ c.before.if-t-lt1.false, le-ltb _ _ c.if-k-t.true))
     returns-4
     returns-5
     (λ c. search rules)

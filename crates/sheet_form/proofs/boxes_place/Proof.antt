@@ -11,14 +11,14 @@ use Rattle.sheet_form.proofs.boxes_place.Tie as tie
 returns : tie.Need-returns
 returns c =
     let given = c.before.before.before.args in
-    c.number-place.ensures ∙ ap (λ p. number_place given.b.now p (given.k * given.k)) c.before.matrix-place.ensures
+    c.number_place.ensures ∙ ap (λ p. number_place given.b.now p (given.k * given.k)) c.before.matrix_place-at.ensures
 
-pub boxes-place-spec : {M : Type 1} → statement M
-boxes-place-spec =
+pub boxes_place_spec : {M : Type 1} → statement M
+boxes_place_spec =
     tie.close
     (tie.spec
     (λ c κs. search rules)
     (λ c. omega (arith, square_small c.before.before.args.k c.before.before.requires.high))
     (λ c. omega (arith, square_small c.before.before.args.k c.before.before.requires.high))
-    (λ c κs. (rw c.matrix-place.ensures c.before.before.requires.stand, omega arith))
+    (λ c κs. (rw c.matrix_place-at.ensures c.before.before.requires.stand, omega arith))
     returns)

@@ -7,22 +7,22 @@ use Rattle.rules.specs.Sheet.{first_line_keeps}
 use Rattle.sheet_form.proofs.first_line_keeps.Statement.{statement}
 use Rattle.sheet_form.proofs.first_line_keeps.Tie as tie
 
-returns : tie.Need-returns
+returns : tie.Need-returns-then-b-gt-BYTES
 unfolding first_line_keeps
-returns c = rw (lt-leb _ _ c.if1.true)
+returns c = rw (lt-leb _ _ c.if-b-gt-BYTES.true)
 
-returns-2 : tie.Need-returns-2
+returns-2 : tie.Need-returns-then-not-word_at
 unfolding first_line_keeps text
-returns-2 c = rw (le-leb _ _ c.before.before.before.if1.false, failed c.before.word_at.ensures c.if2.true)
+returns-2 c = rw (le-leb _ _ c.before.before.before.if-b-gt-BYTES.false, failed c.before.word_at.ensures c.if-not-word_at.true)
 
-returns-3 : tie.Need-returns-3
+returns-3 : tie.Need-returns
 unfolding first_line_keeps text
 returns-3 c =
-    rw (le-leb _ _ c.before.before.before.before.if1.false, passed c.before.before.word_at.ensures c.before.if2.false)
-    c.numbers-at.ensures
+    rw (le-leb _ _ c.before.before.before.before.if-b-gt-BYTES.false, passed c.before.before.word_at.ensures c.before.if-not-word_at.false)
+    c.numbers_at.ensures
 
-pub first-line-keeps-spec : {M : Type 1} → statement M
-first-line-keeps-spec =
+pub first_line_keeps_spec : {M : Type 1} → statement M
+first_line_keeps_spec =
     tie.close
     (tie.spec
     returns

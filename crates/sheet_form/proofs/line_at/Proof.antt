@@ -10,52 +10,52 @@ use Rattle.sheet_form.specs.Laws.{box_line_lem, silent_within, silent_read}
 use Rattle.sheet_form.proofs.line_at.Statement.{statement}
 use Rattle.sheet_form.proofs.line_at.Tie as tie
 
-abbrev found : tie.After-word-at → tie.After-digits-end
+abbrev found : tie.After-word_at → tie.After-digits_end-says
 found c = c.before.before
 
-abbrev start : tie.After-digits-end → tie.Start
+abbrev start : tie.After-digits_end-says → tie.Start
 start c = c.before.before
 
 -- whether the box is silent; its two numbers stand if it is not
-silent : (c : tie.After-word-at) → c.word_at.result ≡ is_silent (start (found c)).args.b.now (start (found c)).args.i
+silent : (c : tie.After-word_at) → c.word_at.result ≡ is_silent (start (found c)).args.b.now (start (found c)).args.i
 unfolding text
-silent c = silent_read _ _ (found c).digits-end.ensures c.word_at.ensures
+silent c = silent_read _ _ (found c).digits_end-says.ensures c.word_at.ensures
 
-pair : (c : tie.Else1) → numbers_at (start (found c.before)).args.b.now ((found c.before).digits-end.result + 1) 2 ≡ true
+pair : (c : tie.Else-word_at) → numbers_at (start (found c.before)).args.b.now ((found c.before).digits_end-says.result + 1) 2 ≡ true
 pair c =
     let read = found c.before in
     let given = (start read).args in
-    ap (λ n. numbers_at given.b.now (n + 1) 2) read.digits-end.ensures
-    ∙ (box_line_lem given.b.now given.i given.m (start read).pre).pair (sym (silent c.before) ∙ c.if1.false)
+    ap (λ n. numbers_at given.b.now (n + 1) 2) read.digits_end-says.ensures
+    ∙ (box_line_lem given.b.now given.i given.m (start read).pre).pair (sym (silent c.before) ∙ c.if-word_at.false)
 
-add-says : tie.Need-overflow-add-says
+add-says : tie.Need-digits_end-says-requires
 add-says c =
     let given = (start c).args in
-    omega (arith, c.digits-end.ensures, (box_line_lem given.b.now given.i given.m (start c).requires).within)
+    omega (arith, c.digits_end-says.ensures, (box_line_lem given.b.now given.i given.m (start c).requires).within)
 
-add-next : tie.Need-overflow-add-next
+add-next : tie.Need-overflow_add-next
 add-next c =
     let read = found c.before in
-    omega (arith, read.digits-end.ensures, silent_within _ (start read).args.i (sym (silent c.before) ∙ c.if1.true))
+    omega (arith, read.digits_end-says.ensures, silent_within _ (start read).args.i (sym (silent c.before) ∙ c.if-word_at.true))
 
-returns : tie.Need-returns
+returns : tie.Need-returns-then-word_at
 unfolding said_at next_line
 returns c =
-    let says = sym (silent c.before) ∙ c.if1.true in
-    ((rw says), (rw says (ap (λ n. n + 1 + 7) (found c.before).digits-end.ensures)))
+    let says = sym (silent c.before) ∙ c.if-word_at.true in
+    ((rw says), (rw says (ap (λ n. n + 1 + 7) (found c.before).digits_end-says.ensures)))
 
-returns-2 : tie.Need-returns-2
+returns-2 : tie.Need-returns
 unfolding said_at next_line
 returns-2 c =
     let tested = c.before.before.before in
     let read = found tested.before in
-    let says = read.digits-end.ensures in (
-      (rw (sym (silent tested.before) ∙ tested.if1.false, c.before.before.number_at.ensures, c.before.number-at2.ensures, says)),
-      (rw (sym (silent tested.before) ∙ tested.if1.false) (c.number-place.ensures ∙ ap (λ n. number_place (start read).args.b.now (n + 1) 2) says)),
+    let says = read.digits_end-says.ensures in (
+      (rw (sym (silent tested.before) ∙ tested.if-word_at.false, c.before.before.number_at.ensures, c.before.number_at-2.ensures, says)),
+      (rw (sym (silent tested.before) ∙ tested.if-word_at.false) (c.number_place-next.ensures ∙ ap (λ n. number_place (start read).args.b.now (n + 1) 2) says)),
     )
 
-pub line-at-spec : {M : Type 1} → statement M
-line-at-spec =
+pub line_at_spec : {M : Type 1} → statement M
+line_at_spec =
     tie.close
     (tie.spec
     (λ c κs. search rules)

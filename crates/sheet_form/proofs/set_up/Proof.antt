@@ -11,14 +11,14 @@ returns : tie.Need-returns
 unfolding sheet_set_up
 returns c =
     rw (
-      c.before.before.before.number_at.ensures,
-      c.before.before.number-at2.ensures,
-      c.before.number-at3.ensures,
-      c.number-at4.ensures,
+      c.before.before.before.number_at-group.ensures,
+      c.before.before.number_at-n.ensures,
+      c.before.number_at-t.ensures,
+      c.number_at-k.ensures,
     )
 
-pub set-up-spec : {M : Type 1} → statement M
-set-up-spec =
+pub set_up_spec : {M : Type 1} → statement M
+set_up_spec =
     tie.close
     (found4 (tie.spec
     (λ c κs. (first_numbers _ c.before.requires, omega arith))

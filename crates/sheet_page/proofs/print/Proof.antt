@@ -21,83 +21,83 @@ unfolding page
 prints b lent w l e h = rw (le-ltb (length lent) 512 l, e, h.0, h.1)
 
 -- the size of the page; the first line has passed
-abbrev start : tie.Else1 → tie.Start
+abbrev start : tie.Else-page-lt-PAGE → tie.Start
 start c = c.before.before.before
 
-abbrev sized : tie.Else2 → tie.Else1
+abbrev sized : tie.Else-not-first_line_keeps → tie.Else-page-lt-PAGE
 sized c = c.before.before
 
-first-passed : (c : tie.Else2) → first_line_keeps (start (sized c)).args.b.now ≡ true
-first-passed c = passed c.before.first-line-keeps.ensures c.if2.false
+first-passed : (c : tie.Else-not-first_line_keeps) → first_line_keeps (start (sized c)).args.b.now ≡ true
+first-passed c = passed c.before.first_line_keeps.ensures c.if-not-first_line_keeps.false
 
--- what the tests of the set-up numbers say, of the sheet's
-abbrev first : tie.After-sizes-keep → tie.Else2
+-- what the tests of the set_up_lem numbers say, of the sheet's
+abbrev first : tie.After-sizes_keep-sized → tie.Else-not-first_line_keeps
 first c = c.before.before.before
 
-abbrev given : tie.After-sizes-keep → tie.Start
+abbrev given : tie.After-sizes_keep-sized → tie.Start
 given c = start (sized (first c))
 
-module _ (c : tie.After-sizes-keep) where
-  of-sheet-group : c.before.group_keeps_lem.result ≡ group_keeps (sheet_set_up (given c).args.b.now)
-  of-sheet-group = c.before.group_keeps_lem.ensures ∙ ap group_keeps c.before.before.set-up.ensures
+module _ (c : tie.After-sizes_keep-sized) where
+  of-sheet-group : c.before.group_keeps-grouped.result ≡ group_keeps (sheet_set_up (given c).args.b.now)
+  of-sheet-group = c.before.group_keeps-grouped.ensures ∙ ap group_keeps c.before.before.set_up-u.ensures
 
-  of-sheet-sizes : let u = sheet_set_up (given c).args.b.now in c.sizes_keep_lem.result ≡ sizes_keep u.n u.t u.k
-  of-sheet-sizes = c.sizes_keep_lem.ensures ∙ ap (λ u. sizes_keep u.n u.t u.k) c.before.before.set-up.ensures
+  of-sheet-sizes : let u = sheet_set_up (given c).args.b.now in c.sizes_keep-sized.result ≡ sizes_keep u.n u.t u.k
+  of-sheet-sizes = c.sizes_keep-sized.ensures ∙ ap (λ u. sizes_keep u.n u.t u.k) c.before.before.set_up-u.ensures
 
-returns : tie.Need-returns
+returns : tie.Need-returns-then-page-lt-PAGE
 unfolding page
-returns c = rw (lt-ltb _ _ c.if1.true)
+returns c = rw (lt-ltb _ _ c.if-page-lt-PAGE.true)
 
-returns-2 : tie.Need-returns-2
+returns-2 : tie.Need-print_only-requires
 unfolding printed text
 returns-2 c =
     let test = c.before.before.before.before.before in
     let lent = test.before.before in
-    prints (start lent).args.b.now (start lent).args.page.now (text "bad sheet\n") lent.if1.false
-    (rw (failed test.before.first-line-keeps.ensures test.if2.true))
-    c.before.before.print-only.ensures
+    prints (start lent).args.b.now (start lent).args.page.now (text "bad sheet\n") lent.if-page-lt-PAGE.false
+    (rw (failed test.before.first_line_keeps.ensures test.if-not-first_line_keeps.true))
+    c.before.before.print_only.ensures
 
-returns-3 : tie.Need-returns-3
+returns-3 : tie.Need-shape_of-page-then-not-grouped
 unfolding printed text
 returns-3 c =
     let group = c.before.before.before.before.before in
     let tests = group.before in
-    prints (given tests).args.b.now (given tests).args.page.now (text "refused 11\n") (sized (first tests)).if1.false
-    (rw (first-passed (first tests), failed (of-sheet-group tests) group.if3.true))
-    c.before.before.print-only2.ensures
+    prints (given tests).args.b.now (given tests).args.page.now (text "refused 11\n") (sized (first tests)).if-page-lt-PAGE.false
+    (rw (first-passed (first tests), failed (of-sheet-group tests) group.if-not-grouped.true))
+    c.before.before.print_only-then-not-grouped.ensures
 
-returns-4 : tie.Need-returns-4
+returns-4 : tie.Need-returns-then-not-sized
 unfolding printed text
 returns-4 c =
     let sizes = c.before.before.before.before.before in
     let tests = sizes.before.before in
-    prints (given tests).args.b.now (given tests).args.page.now (text "refused 12\n") (sized (first tests)).if1.false
-    (rw (first-passed (first tests), passed (of-sheet-group tests) sizes.before.if3.false, failed (of-sheet-sizes tests) sizes.if4.true))
-    c.before.before.print-only3.ensures
+    prints (given tests).args.b.now (given tests).args.page.now (text "refused 12\n") (sized (first tests)).if-page-lt-PAGE.false
+    (rw (first-passed (first tests), passed (of-sheet-group tests) sizes.before.if-not-grouped.false, failed (of-sheet-sizes tests) sizes.if-not-sized.true))
+    c.before.before.print_only-then-not-sized.ensures
 
-print-body-requires : tie.Need-print-body-requires
+print-body-requires : tie.Need-print_body-requires
 print-body-requires c κs =
     let tests = c.before.before.before in
     record {
       first = first-passed (first tests);
-      group = passed tests.before.group_keeps_lem.ensures c.before.before.if3.false;
-      sizes = passed tests.sizes_keep_lem.ensures c.before.if4.false;
-      room = (sized (first tests)).if1.false;
+      group = passed tests.before.group_keeps-grouped.ensures c.before.before.if-not-grouped.false;
+      sizes = passed tests.sizes_keep-sized.ensures c.before.if-not-sized.false;
+      room = (sized (first tests)).if-page-lt-PAGE.false;
     }
 
-returns-5 : tie.Need-returns-5
+returns-5 : tie.Need-returns
 unfolding printed
 returns-5 c =
     let sizes = c.before.before.before.before in
     let tests = sizes.before.before in
-    let read = tests.before.before.set-up in
-    prints (given tests).args.b.now (given tests).args.page.now (body_printed (given tests).args.b.now read.result) (sized (first tests)).if1.false
-    (rw (first-passed (first tests), passed (of-sheet-group tests) sizes.before.if3.false, passed (of-sheet-sizes tests) sizes.if4.false)
+    let read = tests.before.before.set_up-u in
+    prints (given tests).args.b.now (given tests).args.page.now (body_printed (given tests).args.b.now read.result) (sized (first tests)).if-page-lt-PAGE.false
+    (rw (first-passed (first tests), passed (of-sheet-group tests) sizes.before.if-not-grouped.false, passed (of-sheet-sizes tests) sizes.if-not-sized.false)
     (ap (body_printed (given tests).args.b.now) (sym read.ensures)))
-    c.before.before.print-body.ensures
+    c.before.before.print_body.ensures
 
-pub print-spec : {M : Type 1} → statement M
-print-spec =
+pub print_spec : {M : Type 1} → statement M
+print_spec =
     tie.close
     (tie.spec
     returns

@@ -21,41 +21,41 @@ line c =
     record { keeps = c.requires.first; boxes = s.boxes; high = s.high }
 
 -- the rest has passed
-abbrev start : tie.Else1 → tie.Start
+abbrev start : tie.Else-not-rest_keeps → tie.Start
 start c = c.before.before.before.before.before.before
 
-whole : (c : tie.Else1) → let given = (start c).args in Whole given.b.now given.u.n given.u.k
-whole c = record { line = line (start c); rest = passed c.before.rest-keeps.ensures c.if1.false }
+whole : (c : tie.Else-not-rest_keeps) → let given = (start c).args in Whole given.b.now given.u.n given.u.k
+whole c = record { line = line (start c); rest = passed c.before.rest_keeps.ensures c.if-not-rest_keeps.false }
 
 -- what the test of the matrix says, of the sheet's group and matrix
-abbrev form : tie.After-matrix-passes → tie.Else1
+abbrev form : tie.After-matrix_passes → tie.Else-not-rest_keeps
 form c = c.before.before.before
 
-tested : (c : tie.After-matrix-passes)
+tested : (c : tie.After-matrix_passes)
     → let given = (start (form c)).args in
-    c.matrix-passes.result ≡ matrix_passes (group_of given.u.group) given.u.k (sheet_matrix given.b.now (matrix_place given.b.now) given.u.k)
+    c.matrix_passes.result ≡ matrix_passes (group_of given.u.group) given.u.k (sheet_matrix given.b.now (matrix_place given.b.now) given.u.k)
 tested c =
     let given = (start (form c)).args in
-    c.matrix-passes.ensures ∙ ap₂ (λ G C. matrix_passes G given.u.k C) c.before.before.Group-of.ensures c.before.matrix.ensures
+    c.matrix_passes.ensures ∙ ap₂ (λ G C. matrix_passes G given.u.k C) c.before.before.Group-of.ensures c.before.matrix-c.ensures
 
-returns : tie.Need-returns
+returns : tie.Need-shape_of-page-then-not-rest_keeps
 unfolding body_printed text
 returns c =
     let test = c.before.before.before.before.before in
-    rw (failed test.before.rest-keeps.ensures test.if1.true) c.before.before.print-only.ensures
+    rw (failed test.before.rest_keeps.ensures test.if-not-rest_keeps.true) c.before.before.print_only.ensures
 
-matrix-passes-requires : tie.Need-matrix-passes-requires
+matrix-passes-requires : tie.Need-matrix-c-requires
 matrix-passes-requires c κs =
     let given = start c.before.before in
     (rw c.before.Group-of.ensures (group_sizes given.args.u given.pre.group).modulus, (line given).high)
 
-returns-2 : tie.Need-returns-2
+returns-2 : tie.Need-returns-then-not-matrix_passes
 unfolding body_printed text
 returns-2 c =
     let matrix = c.before.before.before.before.before in
-    rw ((whole (form matrix.before)).rest, failed (tested matrix.before) matrix.if2.true) c.before.before.print-only2.ensures
+    rw ((whole (form matrix.before)).rest, failed (tested matrix.before) matrix.if-not-matrix_passes.true) c.before.before.print_only-then-not-matrix_passes.ensures
 
-print-lines-requires : tie.Need-print-lines-requires
+print-lines-requires : tie.Need-print_lines-requires
 print-lines-requires c κs =
     let matrix = c.before.before in
     let given = start (form matrix.before) in
@@ -67,24 +67,24 @@ print-lines-requires c κs =
         modulus = rw e G.modulus;
         order = rw e (omega (arith, G.above));
         high = s.high;
-        passes = passed matrix.before.matrix-passes.ensures matrix.if2.false;
+        passes = passed matrix.before.matrix_passes.ensures matrix.if-not-matrix_passes.false;
       };
       order = rw e (omega (arith, G.above));
       boxes = s.boxes;
       room = given.pre.room;
     }
 
-returns-3 : tie.Need-returns-3
+returns-3 : tie.Need-returns
 unfolding body_printed text
 returns-3 c =
     let shares = c.before.before.before.before in
     let matrix = shares.before in
     let read = matrix.before.before in
-    rw ((whole (form matrix.before)).rest, passed (tested matrix.before) matrix.if2.false)
-    (rw (shares.shares.ensures, read.matrix.ensures, read.before.Group-of.ensures) at c.before.before.print-lines.ensures)
+    rw ((whole (form matrix.before)).rest, passed (tested matrix.before) matrix.if-not-matrix_passes.false)
+    (rw (shares.shares-shares.ensures, read.matrix-c.ensures, read.before.Group-of.ensures) at c.before.before.print_lines.ensures)
 
-pub print-body-spec : {M : Type 1} → statement M
-print-body-spec =
+pub print_body_spec : {M : Type 1} → statement M
+print_body_spec =
     tie.close
     (tie.spec
     (λ c. search rules)

@@ -10,5 +10,5 @@ returns c =
     let start = put.before.before.before.before in
     word_written start.args.page.now start.args.line.now start.requires put.put_word.ensures
 
-pub print-only-spec : {M : Type 1} → statement M
-print-only-spec = tie.close (tie.spec (λ c κs. search rules) (λ c. search rules) returns)
+pub print_only_spec : {M : Type 1} → statement M
+print_only_spec = tie.close (tie.spec (λ c κs. search rules) (λ c. search rules) returns)

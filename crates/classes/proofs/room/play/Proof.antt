@@ -6,8 +6,8 @@ use Rattle.folds.specs.Found.{found10}
 use Rattle.classes.proofs.room.play.Statement.{statement}
 use Rattle.classes.proofs.room.play.Tie as tie
 
-pub play-spec : {M : Type 1} → statement M
-play-spec =
+pub play_spec : {M : Type 1} → statement M
+play_spec =
     tie.close
     (found10
     (tie.spec

@@ -7,8 +7,8 @@ use Rattle.folds.specs.Found.{found8}
 use Rattle.classes.proofs.twenty.classes.Statement.{statement}
 use Rattle.classes.proofs.twenty.classes.Tie as tie
 
-pub classes-spec : {M : Type 1} → statement M
-classes-spec =
+pub classes_spec : {M : Type 1} → statement M
+classes_spec =
     tie.close
     (found8
     (found8

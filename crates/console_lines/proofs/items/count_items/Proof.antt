@@ -10,31 +10,31 @@ use Rattle.console_lines.specs.Items.{is_space, items}
 use Rattle.console_lines.proofs.items.count_items.Statement.{statement}
 use Rattle.console_lines.proofs.items.count_items.Tie as tie
 
-abbrev invariant-loop : tie.invariant-loop
-invariant-loop line spaces₀ i₀ spaces i = Counted (is_space line) (length line) i spaces
+abbrev invariant-loop-i : tie.invariant-loop-i
+invariant-loop-i line spaces₀ i₀ spaces i = Counted (is_space line) (length line) i spaces
 
-abbrev decreases-loop : tie.decreases-loop
-decreases-loop line spaces₀ i₀ spaces i = length line - i
+abbrev decreases-loop-i : tie.decreases-loop-i
+decreases-loop-i line spaces₀ i₀ spaces i = length line - i
 
-loop-again : tie.Need-loop-preserved invariant-loop decreases-loop
+loop-again : tie.Need-loop-i-preserved invariant-loop-i decreases-loop-i
 loop-again c =
     let turn = c.before.before in
-    let more = counted_more _ _ turn.before.loop.i turn.loop-test.true turn.before.loop.invariant in
-    ⊎_elim (λ w. more.0 (eq-eqb _ _ w.0.taken) w.1) (λ w. more.1 (ne_eqb _ _ w.0.left) w.1) c.if1.branch
+    let more = counted_more _ _ turn.before.loop-i.i turn.loop-i-test.true turn.before.loop-i.invariant in
+    ⊎_elim (λ w. more.0 (eq-eqb _ _ w.0.taken) w.1) (λ w. more.1 (ne_eqb _ _ w.0.left) w.1) c.if-line-i-eq32.branch
 
-returns : tie.Need-returns invariant-loop decreases-loop
+returns : tie.Need-returns invariant-loop-i decreases-loop-i
 unfolding items
-returns c = counted_all _ _ _ c.loop-test.false c.before.loop.invariant
+returns c = counted_all _ _ _ c.loop-i-test.false c.before.loop-i.invariant
 
-pub count-items-spec : {M : Type 1} → statement M
-count-items-spec =
+pub count_items_spec : {M : Type 1} → statement M
+count_items_spec =
     tie.close
     (tie.spec
-    invariant-loop
-    decreases-loop
+    invariant-loop-i
+    decreases-loop-i
     (λ c. counted_start _ _)
     (λ c. omega arith)
-    (λ c. omega (arith, count_below_le (is_space c.before.before.before.before.args.line.now) c.before.before.before.loop.i))
+    (λ c. omega (arith, count_below_le (is_space c.before.before.before.before.args.line.now) c.before.before.before.loop-i.i))
     (λ c. omega arith)
     (λ c. omega arith)
     loop-again

@@ -10,36 +10,36 @@ use Rattle.console_lines.specs.Items.{is_space, item_end}
 use Rattle.console_lines.proofs.items.item_end.Statement.{statement}
 use Rattle.console_lines.proofs.items.item_end.Tie as tie
 
-abbrev invariant-loop : tie.invariant-loop
-invariant-loop line from i₀ i = first_from (length line - i) i (is_space line) ≡ item_end line from
+abbrev invariant-loop-i : tie.invariant-loop-i
+invariant-loop-i line from i₀ i = first_from (length line - i) i (is_space line) ≡ item_end line from
 
-abbrev decreases-loop : tie.decreases-loop
-decreases-loop line from i₀ i = length line - i
+abbrev decreases-loop-i : tie.decreases-loop-i
+decreases-loop-i line from i₀ i = length line - i
 
-loop-holds : tie.Need-loop-init invariant-loop decreases-loop
+loop-holds : tie.Need-loop-i-init invariant-loop-i decreases-loop-i
 unfolding item_end
 loop-holds c = refl
 
-returns : tie.Need-returns invariant-loop decreases-loop
+returns : tie.Need-returns-then-line-i-eq32 invariant-loop-i decreases-loop-i
 returns c =
     let turn = c.before.before in
-    sym (first_from_here _ _ _ turn.loop-test.true (eq-eqb _ _ c.if1.true)) ∙ turn.before.loop.invariant
+    sym (first_from_here _ _ _ turn.loop-i-test.true (eq-eqb _ _ c.if-line-i-eq32.true)) ∙ turn.before.loop-i.invariant
 
-loop-again : tie.Need-loop-preserved invariant-loop decreases-loop
+loop-again : tie.Need-loop-i-preserved invariant-loop-i decreases-loop-i
 loop-again c =
     let turn = c.before.before in
-    sym (first_from_skip _ _ _ turn.loop-test.true (ne_eqb _ _ c.if1.false)) ∙ turn.before.loop.invariant
+    sym (first_from_skip _ _ _ turn.loop-i-test.true (ne_eqb _ _ c.if-line-i-eq32.false)) ∙ turn.before.loop-i.invariant
 
-pub item-end-spec : {M : Type 1} → statement M
-item-end-spec =
+pub item_end_spec : {M : Type 1} → statement M
+item_end_spec =
     tie.close
     (tie.spec
-    invariant-loop
-    decreases-loop
+    invariant-loop-i
+    decreases-loop-i
     loop-holds
     (λ c. omega arith)
     returns
     (λ c. omega arith)
     (λ c. omega arith)
     loop-again
-    (λ c. sym (first_from_none _ _ _ c.loop-test.false) ∙ c.before.loop.invariant))
+    (λ c. sym (first_from_none _ _ _ c.loop-i-test.false) ∙ c.before.loop-i.invariant))

@@ -15,38 +15,38 @@ use Rattle.console_lines.proofs.judging.bad_byte.Tie as tie
 abbrev outsideAt : List ℕ → ℕ → Bool
 outsideAt b i = is_outside (get_or b i 0)
 
-abbrev invariant-loop : tie.invariant-loop
-invariant-loop line i₀ i = NotYet (outsideAt line) (length line) i
+abbrev invariant-loop-i : tie.invariant-loop-i
+invariant-loop-i line i₀ i = NotYet (outsideAt line) (length line) i
 
-abbrev decreases-loop : tie.decreases-loop
-decreases-loop line i₀ i = length line - i
+abbrev decreases-loop-i : tie.decreases-loop-i
+decreases-loop-i line i₀ i = length line - i
 
-loop-holds : tie.Need-loop-init invariant-loop decreases-loop
+loop-holds : tie.Need-loop-i-init invariant-loop-i decreases-loop-i
 loop-holds c = not_yet_start _ _
 
-returns : tie.Need-returns invariant-loop decreases-loop
+returns : tie.Need-returns-then-is_outside invariant-loop-i decreases-loop-i
 unfolding bad_byte
 returns c =
     let turn = c.before.before.before in
-    first_here _ _ _ turn.loop-test.true turn.before.loop.invariant (sym c.before.is-outside.ensures ∙ c.if1.true)
+    first_here _ _ _ turn.loop-i-test.true turn.before.loop-i.invariant (sym c.before.is_outside.ensures ∙ c.if-is_outside.true)
 
-loop-again : tie.Need-loop-preserved invariant-loop decreases-loop
+loop-again : tie.Need-loop-i-preserved invariant-loop-i decreases-loop-i
 loop-again c =
     let turn = c.before.before.before in
-    first_more _ _ _ turn.loop-test.true turn.before.loop.invariant (sym c.before.is-outside.ensures ∙ c.if1.false)
+    first_more _ _ _ turn.loop-i-test.true turn.before.loop-i.invariant (sym c.before.is_outside.ensures ∙ c.if-is_outside.false)
 
-returns-2 : tie.Need-returns-2 invariant-loop decreases-loop
+returns-2 : tie.Need-returns invariant-loop-i decreases-loop-i
 unfolding bad_byte
 returns-2 c =
-    let all : c.before.loop.i ≡ length c.before.before.before.args.line.now = omega arith in
-    all ∙ first_none _ _ _ c.loop-test.false c.before.loop.invariant
+    let all : c.before.loop-i.i ≡ length c.before.before.before.args.line.now = omega arith in
+    all ∙ first_none _ _ _ c.loop-i-test.false c.before.loop-i.invariant
 
-pub bad-byte-spec : {M : Type 1} → statement M
-bad-byte-spec =
+pub bad_byte_spec : {M : Type 1} → statement M
+bad_byte_spec =
     tie.close
     (tie.spec
-    invariant-loop
-    decreases-loop
+    invariant-loop-i
+    decreases-loop-i
     loop-holds
     (λ c. search rules) (λ c κs. search rules)
     returns

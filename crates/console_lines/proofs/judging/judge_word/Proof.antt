@@ -13,83 +13,83 @@ use Rattle.console_lines.specs.declared.reasons.Reason.TheVariants.{Item}
 use Rattle.console_lines.proofs.judging.judge_word.Statement.{statement}
 use Rattle.console_lines.proofs.judging.judge_word.Tie as tie
 
-abbrev known : tie.Else1 → tie.After-form-of
+abbrev known : tie.Else-form → tie.After-form_of-form
 known c = c.before.before
 
-abbrev start : tie.After-form-of → tie.Start
+abbrev start : tie.After-form_of-form → tie.Start
 start c = c.before.before
 
-abbrev counted : tie.Else2 → tie.After-count-items
+abbrev counted : tie.Else-m-form → tie.After-count_items-m
 counted c = c.before.before
 
-abbrev few : tie.Else3 → tie.Else2
+abbrev few : tie.Else-form-m → tie.Else-m-form
 few c = c.before.before
 
-returns : tie.Need-returns
+returns : tie.Need-returns-then-form
 unfolding judged_word
-returns c = rw (sym c.before.before.form_of.ensures, lt-ltb _ _ c.if1.true)
+returns c = rw (sym c.before.before.form_of-form.ensures, lt-ltb _ _ c.if-form.true)
 
-returns-2 : tie.Need-returns-2
+returns-2 : tie.Need-returns-then-m-form
 unfolding judged_word
 returns-2 c =
     let count = c.before.before in
     let word = count.before in
-    rw (sym (known word).form_of.ensures, sym count.count-items.ensures, le-ltb _ _ word.if1.false, lt-ltb _ _ c.if2.true)
+    rw (sym (known word).form_of-form.ensures, sym count.count_items-m.ensures, le-ltb _ _ word.if-form.false, lt-ltb _ _ c.if-m-form.true)
 
-returns-3 : tie.Need-returns-3
+returns-3 : tie.Need-returns-then-form-m
 unfolding judged_word
 returns-3 c =
     let least = c.before.before in
     let count = counted least in
     let word = count.before in
     rw (
-      sym (known word).form_of.ensures,
-      sym count.count-items.ensures,
-      le-ltb _ _ word.if1.left,
-      le-ltb _ _ least.if2.false,
-      lt-ltb _ _ c.if3.true,
+      sym (known word).form_of-form.ensures,
+      sym count.count_items-m.ensures,
+      le-ltb _ _ word.if-form.left,
+      le-ltb _ _ least.if-m-form.false,
+      lt-ltb _ _ c.if-form-m.true,
     )
 
-bad-item-requires : tie.Need-bad-item-requires
+bad-item-requires : tie.Need-bad_item-j-requires
 bad-item-requires c κs =
     let count = counted (few c) in
     let line = (start (known count.before)).args.line.now in
-    (omega arith, omega (arith, count.count-items.ensures, items_most line))
+    (omega arith, omega (arith, count.count_items-m.ensures, items_most line))
 
-cast-t11 : tie.Need-overflow-cast-t11
+cast-t11 : tie.Need-overflow_cast-result
 cast-t11 c =
     let count = counted (few c.before.before) in
     let line = (start (known count.before)).args.line.now in
-    omega (arith, count.count-items.ensures, items_most line)
+    omega (arith, count.count_items-m.ensures, items_most line)
 
 -- the number of items is right: what is left is the first that is not of its form
-items-right : (c : tie.After-bad-item)
+items-right : (c : tie.After-bad_item-j)
     → let count = counted (few c.before) in
     let given = (start (known count.before)).args in
-    let j = c.bad-item.result in
-    judged_word given.line.now given.word ≡ pick (ltb j count.count-items.result) (Bad (Item (j + 1))) (Takes given.word)
+    let j = c.bad_item-j.result in
+    judged_word given.line.now given.word ≡ pick (ltb j count.count_items-m.result) (Bad (Item (j + 1))) (Takes given.word)
 unfolding judged_word
 items-right c =
     let most = c.before in
     let count = counted (few most) in
     let word = count.before in
     rw (
-      sym (known word).form_of.ensures,
-      sym count.count-items.ensures,
-      sym c.bad-item.ensures,
-      le-ltb _ _ word.if1.left,
-      le-ltb _ _ (few most).if2.false,
-      le-ltb _ _ most.if3.false,
+      sym (known word).form_of-form.ensures,
+      sym count.count_items-m.ensures,
+      sym c.bad_item-j.ensures,
+      le-ltb _ _ word.if-form.left,
+      le-ltb _ _ (few most).if-m-form.false,
+      le-ltb _ _ most.if-form-m.false,
     )
 
-returns-4 : tie.Need-returns-4
-returns-4 c = rw (items-right c.before, lt-ltb _ _ c.if4.true)
+returns-4 : tie.Need-returns-then-j-m
+returns-4 c = rw (items-right c.before, lt-ltb _ _ c.if-j-m.true)
 
-returns-5 : tie.Need-returns-5
-returns-5 c = rw (items-right c.before, le-ltb _ _ c.if4.false)
+returns-5 : tie.Need-returns
+returns-5 c = rw (items-right c.before, le-ltb _ _ c.if-j-m.false)
 
-pub judge-word-spec : {M : Type 1} → statement M
-judge-word-spec =
+pub judge_word_spec : {M : Type 1} → statement M
+judge_word_spec =
     tie.close
     (tie.spec
     (λ c κs. search rules)

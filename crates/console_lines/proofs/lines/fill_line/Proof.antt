@@ -19,11 +19,11 @@ record Has (b : List ℕ) (kept : ℕ) (buf : List ℕ) (have : ℕ) : Type 0 wh
   front : take kept buf ≡ take kept b
   none : line_end buf 0 have ≡ have
 
-abbrev invariant-loop : tie.invariant-loop
-invariant-loop buf₀ kept have₀ buf have = Has buf₀ kept buf have
+abbrev invariant-loop-have : tie.invariant-loop-have
+invariant-loop-have buf₀ kept have₀ buf have = Has buf₀ kept buf have
 
-abbrev decreases-loop : tie.decreases-loop
-decreases-loop buf₀ kept have₀ buf have = length buf₀ - have
+abbrev decreases-loop-have : tie.decreases-loop-have
+decreases-loop-have buf₀ kept have₀ buf have = length buf₀ - have
 
 -- more came
 module _ {b buf out : List ℕ} {kept have got : ℕ} (h : Has b kept buf have) (f : Fills buf have got out) where
@@ -56,63 +56,63 @@ module _ {b buf out : List ℕ} {kept have got : ℕ} (h : Has b kept buf have) 
         none = sym (ends e) ∙ (let z : end ≡ have + got = omega arith in z);
       }
 
-loop-holds : tie.Need-loop-init invariant-loop decreases-loop
+loop-holds : tie.Need-loop-have-init invariant-loop-have decreases-loop-have
 loop-holds c =
     let pre = c.before.requires in
     record { kept_there = search rules; room = pre.room; same = refl; front = refl; none = pre.none }
 
-returns : tie.Need-returns invariant-loop decreases-loop
+returns : tie.Need-returns-then-have-eq0 invariant-loop-have decreases-loop-have
 returns c =
     let read = c.before.before.before.before in
-    let inv = read.before.before.before.loop.invariant in
+    let inv = read.before.before.before.loop-have.invariant in
     let z = inv.kept_there in
-    record { same = same-still inv read.read_more.ensures; is = (refl, refl, omega arith) }
+    record { same = same-still inv read.read_more-got.ensures; is = (refl, refl, omega arith) }
 
-returns-2 : tie.Need-returns-2 invariant-loop decreases-loop
+returns-2 : tie.Need-returns-else-have-eq0 invariant-loop-have decreases-loop-have
 returns-2 c =
     let read = c.before.before.before.before in
-    let inv = read.before.before.before.loop.invariant in
-    record { same = same-still inv read.read_more.ensures; is = (refl, refl) }
+    let inv = read.before.before.before.loop-have.invariant in
+    record { same = same-still inv read.read_more-got.ensures; is = (refl, refl) }
 
-line-end-requires : tie.Need-line-end-requires invariant-loop decreases-loop
+line-end-requires : tie.Need-line_end-end-requires invariant-loop-have decreases-loop-have
 line-end-requires c κs =
     let read = c.before.before.before.before in
-    let inv = read.before.before.before.loop.invariant in
-    (omega arith, room-still inv read.read_more.ensures)
+    let inv = read.before.before.before.loop-have.invariant in
+    (omega arith, room-still inv read.read_more-got.ensures)
 
-returns-3 : tie.Need-returns-3 invariant-loop decreases-loop
+returns-3 : tie.Need-returns-then-end-to invariant-loop-have decreases-loop-have
 returns-3 c =
     let read = c.before.before.before.before.before.before in
-    let inv = read.before.before.before.loop.invariant in
-    let came = read.read_more.ensures in
+    let inv = read.before.before.before.loop-have.invariant in
+    let came = read.read_more-got.ensures in
     let z = inv.kept_there in
     record {
       same = same-still inv came;
       is = (
         refl,
-        record { newline_there = c.if3.true; first = ends inv came c.before.line-end.ensures; behind = refl; room = room-still inv came },
+        record { newline_there = c.if-end-to.true; first = ends inv came c.before.line_end-end.ensures; behind = refl; room = room-still inv came },
         omega arith,
         front-still inv came,
       );
     }
 
-loop-again : tie.Need-loop-preserved invariant-loop decreases-loop
+loop-again : tie.Need-loop-have-preserved invariant-loop-have decreases-loop-have
 loop-again c =
     let read = c.before.before.before.before.before.before in
-    has_more read.before.before.before.loop.invariant read.read_more.ensures c.before.line-end.ensures c.if3.false
+    has_more read.before.before.before.loop-have.invariant read.read_more-got.ensures c.before.line_end-end.ensures c.if-end-to.false
 
-returns-4 : tie.Need-returns-4 invariant-loop decreases-loop
+returns-4 : tie.Need-returns invariant-loop-have decreases-loop-have
 returns-4 c =
-    let inv = c.before.before.before.before.before.loop.invariant in
-    let skipped = c.before.before.skip-line.ensures in
-    record { same = skipped.0 ∙ inv.same; is = skipped_filled _ _ c.before.before.skip-line.result.line _ _ skipped.1 }
+    let inv = c.before.before.before.before.before.loop-have.invariant in
+    let skipped = c.before.before.skip_line.ensures in
+    record { same = skipped.0 ∙ inv.same; is = skipped_filled _ _ c.before.before.skip_line.result.line _ _ skipped.1 }
 
-pub fill-line-spec : {M : Type 1} → statement M
-fill-line-spec =
+pub fill_line_spec : {M : Type 1} → statement M
+fill_line_spec =
     tie.close
     (tie.spec
-    invariant-loop
-    decreases-loop
+    invariant-loop-have
+    decreases-loop-have
     loop-holds
     (λ c κs. search rules) (λ c. search rules)
     returns

@@ -10,35 +10,35 @@ use Rattle.console_lines.specs.Lines.{is_newline, line_end}
 use Rattle.console_lines.proofs.lines.line_end.Statement.{statement}
 use Rattle.console_lines.proofs.lines.line_end.Tie as tie
 
-abbrev invariant-loop : tie.invariant-loop
-invariant-loop buf from to i₀ i = (i ≤ to) × (first_from (to - i) i (is_newline buf) ≡ line_end buf from to)
+abbrev invariant-loop-i : tie.invariant-loop-i
+invariant-loop-i buf from to i₀ i = (i ≤ to) × (first_from (to - i) i (is_newline buf) ≡ line_end buf from to)
 
-abbrev decreases-loop : tie.decreases-loop
-decreases-loop buf from to i₀ i = to - i
+abbrev decreases-loop-i : tie.decreases-loop-i
+decreases-loop-i buf from to i₀ i = to - i
 
-loop-holds : tie.Need-loop-init invariant-loop decreases-loop
+loop-holds : tie.Need-loop-i-init invariant-loop-i decreases-loop-i
 unfolding line_end
 loop-holds c = (c.requires.0, refl)
 
-returns : tie.Need-returns invariant-loop decreases-loop
+returns : tie.Need-returns-then-buf-i-eq10 invariant-loop-i decreases-loop-i
 returns c =
     let turn = c.before.before in
-    sym (first_from_here _ _ _ turn.loop-test.true (eq-eqb _ _ c.if1.true)) ∙ turn.before.loop.invariant.1
+    sym (first_from_here _ _ _ turn.loop-i-test.true (eq-eqb _ _ c.if-buf-i-eq10.true)) ∙ turn.before.loop-i.invariant.1
 
-loop-again : tie.Need-loop-preserved invariant-loop decreases-loop
+loop-again : tie.Need-loop-i-preserved invariant-loop-i decreases-loop-i
 loop-again c =
     let turn = c.before.before in
-    (omega arith, sym (first_from_skip _ _ _ turn.loop-test.true (ne_eqb _ _ c.if1.false)) ∙ turn.before.loop.invariant.1)
+    (omega arith, sym (first_from_skip _ _ _ turn.loop-i-test.true (ne_eqb _ _ c.if-buf-i-eq10.false)) ∙ turn.before.loop-i.invariant.1)
 
-returns-2 : tie.Need-returns-2 invariant-loop decreases-loop
-returns-2 c = sym (first_from_none _ _ _ c.loop-test.false) ∙ c.before.loop.invariant.1
+returns-2 : tie.Need-returns invariant-loop-i decreases-loop-i
+returns-2 c = sym (first_from_none _ _ _ c.loop-i-test.false) ∙ c.before.loop-i.invariant.1
 
-pub line-end-spec : {M : Type 1} → statement M
-line-end-spec =
+pub line_end_spec : {M : Type 1} → statement M
+line_end_spec =
     tie.close
     (tie.spec
-    invariant-loop
-    decreases-loop
+    invariant-loop-i
+    decreases-loop-i
     loop-holds
     (λ c. search rules)
     returns

@@ -12,11 +12,11 @@ use Rattle.text.specs.Puts.{word_more}
 use Rattle.console_lines.proofs.lines.move_front.Statement.{statement}
 use Rattle.console_lines.proofs.lines.move_front.Tie as tie
 
-abbrev invariant-loop : tie.invariant-loop
-invariant-loop buf₀ from to n j₀ buf j = (j ≤ to - from) × (length buf ≡ length buf₀) × (buf ≡ sets buf₀ 0 (take j (drop from buf₀)))
+abbrev invariant-loop-j : tie.invariant-loop-j
+invariant-loop-j buf₀ from to n j₀ buf j = (j ≤ to - from) × (length buf ≡ length buf₀) × (buf ≡ sets buf₀ 0 (take j (drop from buf₀)))
 
-abbrev decreases-loop : tie.decreases-loop
-decreases-loop buf₀ from to n j₀ buf j = to - from - j
+abbrev decreases-loop-j : tie.decreases-loop-j
+decreases-loop-j buf₀ from to n j₀ buf j = to - from - j
 
 module _ (b : List ℕ) (from j : ℕ) (l : from + j < length b) where
   -- a byte behind those that were moved
@@ -40,31 +40,31 @@ module _ (b : List ℕ) (from j : ℕ) (l : from + j < length b) where
       ∙ ap (λ (i : ℕ). set buf i (get_or (drop from b) j 0)) z
       ∙ word_more b (drop from b) 0 j (omega (arith, length-drop from b)) e
 
-loop-again : tie.Need-loop-preserved invariant-loop decreases-loop
+loop-again : tie.Need-loop-j-preserved invariant-loop-j decreases-loop-j
 loop-again c =
     let turn = c.before in
-    let loop = turn.before.loop in
+    let loop = turn.before.loop-j in
     let given = turn.before.before.args in (
       omega arith,
       (simp length-set loop.invariant.1),
       moved given.buf.now given.from loop.j (omega arith) loop.invariant.2,
     )
 
-same_length : tie.Need-same-length invariant-loop decreases-loop
-same_length c = c.before.loop.invariant.1
+same_length : tie.Need-shape_of-buf invariant-loop-j decreases-loop-j
+same_length c = c.before.loop-j.invariant.1
 
-returns : tie.Need-returns invariant-loop decreases-loop
+returns : tie.Need-returns invariant-loop-j decreases-loop-j
 returns c =
     let given = c.before.before.args in
-    let all : c.before.loop.j ≡ given.to - given.from = omega arith in
-    (refl, rw all at c.before.loop.invariant.2)
+    let all : c.before.loop-j.j ≡ given.to - given.from = omega arith in
+    (refl, rw all at c.before.loop-j.invariant.2)
 
-pub move-front-spec : {M : Type 1} → statement M
-move-front-spec =
+pub move_front_spec : {M : Type 1} → statement M
+move_front_spec =
     tie.close
     (tie.spec
-    invariant-loop
-    decreases-loop
+    invariant-loop-j
+    decreases-loop-j
     (λ c. search rules) (λ c. search rules) (λ c. search rules) (λ c. search rules) (λ c. search rules)
     (λ c. search rules) (λ c. search rules)
     loop-again

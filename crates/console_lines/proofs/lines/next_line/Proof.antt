@@ -10,9 +10,9 @@ use Rattle.console_lines.specs.Lines.{held_bytes, line_end_least, moved_unended,
 use Rattle.console_lines.proofs.lines.next_line.Statement.{statement}
 use Rattle.console_lines.proofs.lines.next_line.Tie as tie
 
-returns : tie.Need-returns
+returns : tie.Need-returns-then-end-to
 returns c =
-    let found = c.before.line-end.ensures in
+    let found = c.before.line_end-end.ensures in
     let start = c.before.before.before.before in
     let held = start.args.held in
     let least = line_end_least start.args.buf.now held.from held.to start.requires in
@@ -22,36 +22,36 @@ returns c =
       within = record { order = omega arith; room = room };
       inside = (omega arith, omega arith);
       there = λ l. (refl, ap (Whole held.from) found, ap (λ (n : ℕ). n + 1) found, refl);
-      more = λ l. absurd (omega (arith, found, c.if1.true));
+      more = λ l. absurd (omega (arith, found, c.if-end-to.true));
     }
 
-fill-line-requires : tie.Need-fill-line-requires
+fill-line-requires : tie.Need-fill_line-requires
 fill-line-requires c κs =
     let move = c.before.before.before in
     let left = move.before.before in
     let start = left.before.before.before.before in
     let held = start.args.held in
-    unended_from move.move-front.ensures.1 move.move-front.ensures.0
-    (moved_unended start.args.buf.now held.from held.to start.requires (omega (arith, left.before.line-end.ensures, left.if1.false)))
+    unended_from move.move_front-kept.ensures.1 move.move_front-kept.ensures.0
+    (moved_unended start.args.buf.now held.from held.to start.requires (omega (arith, left.before.line_end-end.ensures, left.if-end-to.false)))
 
-returns-2 : tie.Need-returns-2
+returns-2 : tie.Need-returns
 returns-2 c =
     let filled = c.before.before in
     let move = filled.before.before.before.before in
     let left = move.before.before in
     let given = left.before.before.before.before.args in
-    let front = move.move-front.ensures.1 in
-    let is = filled.fill-line.ensures in
+    let front = move.move_front-kept.ensures.1 in
+    let is = filled.fill_line.ensures in
     record {
-      same = is.same ∙ ap length front ∙ length-sets given.buf.now 0 (held_bytes given.buf.now given.held.from given.held.to);
+      same = is.same ∙ ap length front ∙ length-sets given.buf-1.now 0 (held_bytes given.buf-1.now given.held.from given.held.to);
       within = filled_within is;
       inside = filled_inside is;
-      there = λ l. absurd (omega (arith, left.before.line-end.ensures, left.if1.false));
-      more = λ l. filled_from front move.move-front.ensures.0 is;
+      there = λ l. absurd (omega (arith, left.before.line_end-end.ensures, left.if-end-to.false));
+      more = λ l. filled_from front move.move_front-kept.ensures.0 is;
     }
 
-pub next-line-spec : {M : Type 1} → statement M
-next-line-spec =
+pub next_line_spec : {M : Type 1} → statement M
+next_line_spec =
     tie.close
     (tie.spec
     (λ c κs. search rules) (λ c. search rules) (λ c. search rules)

@@ -15,8 +15,8 @@ returns c =
       front = take_at (take given.args.at b) _ given.args.at (length-take-le given.args.at b given.requires);
     }
 
-pub read-more-spec : {M : Type 1} → statement M
-read-more-spec =
+pub read_more_spec : {M : Type 1} → statement M
+read_more_spec =
     tie.close
     (tie.spec
     (λ c. search rules) (λ c. search rules) (λ c. search rules) (λ c κs. search rules) (λ c κs. search rules)

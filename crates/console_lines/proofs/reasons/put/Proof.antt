@@ -7,21 +7,21 @@ use Rattle.text.specs.Puts.{puts_room, puts_word_room, puts_then_word, puts_then
 use Rattle.console_lines.proofs.reasons.put.Statement.{statement}
 use Rattle.console_lines.proofs.reasons.put.Tie as tie
 
-returns : tie.Need-returns
+returns : tie.Need-returns-in-TooLong
 unfolding text
 returns c =
     let told = c.before.before.before.before.before in
     let given = told.before.before.before.args in
-    rw told.enum_told.given.1 (puts_word_room given.page.now given.at (text "bad line: too long\n") 30 (omega arith) c.before.before.put_word.ensures)
+    rw told.enum_told-1.given.1 (puts_word_room given.page-1.now given.at (text "bad line: too long\n") 30 (omega arith) c.before.before.put_word.ensures)
 
-returns-2 : tie.Need-returns-2
+returns-2 : tie.Need-returns-in-CutOff
 unfolding text
 returns-2 c =
     let told = c.before.before.before.before.before in
     let given = told.before.before.before.args in
-    rw told.enum-told2.given.1 (puts_word_room given.page.now given.at (text "bad line: cut off\n") 30 (omega arith) c.before.before.put-word2.ensures)
+    rw told.enum_told-in-CutOff-1.given.1 (puts_word_room given.page-1.now given.at (text "bad line: cut off\n") 30 (omega arith) c.before.before.put_word-in-CutOff.ensures)
 
-returns-3 : tie.Need-returns-3
+returns-3 : tie.Need-returns-in-Byte
 unfolding text
 returns-3 c =
     let last = c.before.before in
@@ -29,50 +29,50 @@ returns-3 c =
     let value = place.before.before.before.before.before in
     let known = value.before.before.before.before in
     let given = known.before.before.before.args in
-    let said = text "bad line: byte " ++ decimal known.reason.given.0.0 in
-    let at = decimal known.reason.given.0.1.0 in
-    rw known.reason.given.1
-    (puts_then_word given.page.now given.at (said ++ text " at " ++ at) (text "\n") 29
-    (puts_then_two given.page.now given.at said (text " at ") at 20 9 value.put-numbered.ensures place.put-numbered2.ensures)
-    last.put-word3.ensures)
+    let said = text "bad line: byte " ++ decimal known.reason-1.given.0.0 in
+    let at = decimal known.reason-1.given.0.1.0 in
+    rw known.reason-1.given.1
+    (puts_then_word given.page-1.now given.at (said ++ text " at " ++ at) (text "\n") 29
+    (puts_then_two given.page-1.now given.at said (text " at ") at 20 9 value.put_numbered-next.ensures place.put_numbered-next-in-Byte.ensures)
+    last.put_word-in-Byte.ensures)
 
-returns-4 : tie.Need-returns-4
+returns-4 : tie.Need-returns-in-Space
 unfolding text
 returns-4 c =
     let last = c.before.before in
     let number = last.before.before.before.before.before in
     let known = number.before.before.before.before in
     let given = known.before.before.before.args in
-    let said = text "bad line: space at " ++ decimal known.reason2.given.0.0 in
-    rw known.reason2.given.1
-    (puts_room given.page.now given.at (said ++ text "\n") 25 30 (omega arith)
-    (puts_then_word given.page.now given.at said (text "\n") 24 number.put-numbered3.ensures last.put-word4.ensures))
+    let said = text "bad line: space at " ++ decimal known.reason-in-Space-1.given.0.0 in
+    rw known.reason-in-Space-1.given.1
+    (puts_room given.page-1.now given.at (said ++ text "\n") 25 30 (omega arith)
+    (puts_then_word given.page-1.now given.at said (text "\n") 24 number.put_numbered-next-in-Space.ensures last.put_word-in-Space.ensures))
 
-returns-5 : tie.Need-returns-5
+returns-5 : tie.Need-returns-in-NoSuchWord
 unfolding text
 returns-5 c =
     let told = c.before.before.before.before.before in
     let given = told.before.before.before.args in
-    rw told.enum-told3.given.1 (puts_word_room given.page.now given.at (text "bad line: no such word\n") 30 (omega arith) c.before.before.put-word5.ensures)
+    rw told.enum_told-in-NoSuchWord-1.given.1 (puts_word_room given.page-1.now given.at (text "bad line: no such word\n") 30 (omega arith) c.before.before.put_word-in-NoSuchWord.ensures)
 
-returns-6 : tie.Need-returns-6
+returns-6 : tie.Need-returns-in-Items
 unfolding text
 returns-6 c =
     let told = c.before.before.before.before.before in
     let given = told.before.before.before.args in
-    rw told.enum-told4.given.1 (puts_word_room given.page.now given.at (text "bad line: items\n") 30 (omega arith) c.before.before.put-word6.ensures)
+    rw told.enum_told-in-Items-1.given.1 (puts_word_room given.page-1.now given.at (text "bad line: items\n") 30 (omega arith) c.before.before.put_word-in-Items.ensures)
 
-returns-7 : tie.Need-returns-7
+returns-7 : tie.Need-returns-in-Item
 unfolding text
 returns-7 c =
     let last = c.before.before in
     let number = last.before.before.before.before.before in
     let known = number.before.before.before.before in
     let given = known.before.before.before.args in
-    let said = text "bad line: item " ++ decimal known.reason3.given.0.0 in
-    rw known.reason3.given.1
-    (puts_room given.page.now given.at (said ++ text "\n") 21 30 (omega arith)
-    (puts_then_word given.page.now given.at said (text "\n") 20 number.put-numbered4.ensures last.put-word7.ensures))
+    let said = text "bad line: item " ++ decimal known.reason-in-Item-1.given.0.0 in
+    rw known.reason-in-Item-1.given.1
+    (puts_room given.page-1.now given.at (said ++ text "\n") 21 30 (omega arith)
+    (puts_then_word given.page-1.now given.at said (text "\n") 20 number.put_numbered-next-in-Item.ensures last.put_word-in-Item.ensures))
 
 pub put_spec : {M : Type 1} → statement M
 put_spec =

@@ -10,25 +10,25 @@ use Rattle.console_lines.specs.Laws.{deal_few}
 use Rattle.console_lines.proofs.said.deal.Statement.{statement}
 use Rattle.console_lines.proofs.said.deal.Tie as tie
 
-read-coins-requires : tie.Need-read-coins-requires
+read-coins-requires : tie.Need-read_coins-requires
 read-coins-requires c κs =
     let counted = c.before in
     let start = counted.before.before.before.before in
     let few = deal_few start.args.line.now start.requires.formed start.requires.short in
-    (omega arith, omega (arith, counted.count-items.ensures, few), omega arith)
+    (omega arith, omega (arith, counted.count_items-m.ensures, few), omega arith)
 
 returns : tie.Need-returns
 returns c =
     let counted = c.before.before.before.before in
     let secret = counted.before in
     let given = secret.before.before.before.args in
-    let count = counted.count-items.ensures in (
-      ap₂ (λ (s n : ℕ). Deal s (n - 1)) secret.number_of_lem.ensures count,
-      c.before.before.read-coins.ensures ∙ ap (λ (n : ℕ). sets given.coins.now 0 (coins_in given.line.now (n - 1))) count,
+    let count = counted.count_items-m.ensures in (
+      ap₂ (λ (s n : ℕ). Deal s (n - 1)) secret.number_of-secret.ensures count,
+      c.before.before.read_coins.ensures ∙ ap (λ (n : ℕ). sets given.coins-1.now 0 (coins_in given.line.now (n - 1))) count,
     )
 
-pub deal-spec : {M : Type 1} → statement M
-deal-spec =
+pub deal_spec : {M : Type 1} → statement M
+deal_spec =
     tie.close
     (tie.spec
     (λ c κs. search rules) (λ c. search rules) (λ c κs. search rules) (λ c. search rules)

@@ -9,10 +9,10 @@ use Rattle.console_lines.proofs.said.number_of.Tie as tie
 
 returns : tie.Need-returns
 unfolding number_of
-returns c = ap (λ (d : Decimal). d.number) (c.decimal-at.ensures ∙ ap (decimal_in _) c.before.item-place.ensures)
+returns c = ap (λ (d : Decimal). d.number) (c.decimal_at-x.ensures ∙ ap (decimal_in _) c.before.item_place-place.ensures)
 
-pub number-of-spec : {M : Type 1} → statement M
-number-of-spec =
+pub number_of_spec : {M : Type 1} → statement M
+number_of_spec =
     tie.close
     (tie.spec
     (λ c κs. search rules) (λ c κs. search rules)

@@ -1,4 +1,4 @@
--- `set_up` is the seven numbers of a set-up. Assumes nothing.
+-- `set_up` is the seven numbers of a set_up_lem. Assumes nothing.
 use borrow.Author.Rules.{rules}
 use Rattle.console_lines.specs.Says.{set_up_of}
 use Rattle.console_lines.proofs.said.set_up.Statement.{statement}
@@ -13,17 +13,17 @@ returns c =
     let third = fourth.before in
     let second = third.before in
     rw (
-      second.before.number_of_lem.ensures,
-      second.number-of2.ensures,
-      third.number-of3.ensures,
-      fourth.number-of4.ensures,
-      fifth.number-of5.ensures,
-      sixth.number-of6.ensures,
-      c.number-of7.ensures,
+      second.before.number_of-group.ensures,
+      second.number_of-n.ensures,
+      third.number_of-t.ensures,
+      fourth.number_of-k.ensures,
+      fifth.number_of-i.ensures,
+      sixth.number_of-d.ensures,
+      c.number_of-session.ensures,
     )
 
-pub set-up-spec : {M : Type 1} → statement M
-set-up-spec =
+pub set_up_spec : {M : Type 1} → statement M
+set_up_spec =
     tie.close
     (tie.spec
     (λ c κs. search rules) (λ c κs. search rules) (λ c κs. search rules) (λ c κs. search rules) (λ c κs. search rules)

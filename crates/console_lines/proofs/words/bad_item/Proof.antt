@@ -17,59 +17,59 @@ use Rattle.console_lines.proofs.words.bad_item.Tie as tie
 abbrev fails : List ℕ → Form → ℕ → Bool
 fails b f j = not (item_keeps b f j (item_place b (j + 1)))
 
-abbrev invariant-loop : tie.invariant-loop
-invariant-loop line form m place₀ j₀ place j = NotYet (fails line form) m j × (place ≡ item_place line (j + 1))
+abbrev invariant-loop-j : tie.invariant-loop-j
+invariant-loop-j line form m place₀ j₀ place j = NotYet (fails line form) m j × (place ≡ item_place line (j + 1))
 
-abbrev decreases-loop : tie.decreases-loop
-decreases-loop line form m place₀ j₀ place j = m - j
+abbrev decreases-loop-j : tie.decreases-loop-j
+decreases-loop-j line form m place₀ j₀ place j = m - j
 
-abbrev start : tie.In-loop invariant-loop decreases-loop → tie.Start invariant-loop decreases-loop
+abbrev start : tie.In-loop-j invariant-loop-j decreases-loop-j → tie.Start invariant-loop-j decreases-loop-j
 start c = c.before.before.before.before
 
 -- item j is tested
-tested : (c : tie.After-item-keeps invariant-loop decreases-loop)
-    → let given = (start c.before).args in not c.item-keeps.result ≡ fails given.line.now given.form c.before.before.loop.j
+tested : (c : tie.After-item_keeps invariant-loop-j decreases-loop-j)
+    → let given = (start c.before).args in not c.item_keeps.result ≡ fails given.line.now given.form c.before.before.loop-j.j
 tested c =
     let given = (start c.before).args in
-    let loop = c.before.before.loop in
-    ap not (c.item-keeps.ensures ∙ ap (item_keeps given.line.now given.form loop.j) loop.invariant.1)
+    let loop = c.before.before.loop-j in
+    ap not (c.item_keeps.ensures ∙ ap (item_keeps given.line.now given.form loop.j) loop.invariant.1)
 
-loop-holds : tie.Need-loop-init invariant-loop decreases-loop
-loop-holds c = (not_yet_start _ _, c.item-place.ensures)
+loop-holds : tie.Need-loop-j-init invariant-loop-j decreases-loop-j
+loop-holds c = (not_yet_start _ _, c.item_place-place.ensures)
 
-returns : tie.Need-returns invariant-loop decreases-loop
+returns : tie.Need-returns-then-not-item_keeps invariant-loop-j decreases-loop-j
 unfolding bad_item
 returns c =
     let turn = c.before.before in
-    first_here _ _ _ turn.loop-test.true turn.before.loop.invariant.0 (sym (tested c.before) ∙ c.if1.true)
+    first_here _ _ _ turn.loop-j-test.true turn.before.loop-j.invariant.0 (sym (tested c.before) ∙ c.if-not-item_keeps.true)
 
-add-place : tie.Need-overflow-add-place invariant-loop decreases-loop
+add-place : tie.Need-overflow_add-place invariant-loop-j decreases-loop-j
 add-place c =
     let turn = c.before.before.before in
     let line = (start turn).args.line.now in
-    let loop = turn.before.loop in
-    omega (arith, c.item-end.ensures, loop.invariant.1, item_end_most line loop.place, item_place_most line (loop.j + 1))
+    let loop = turn.before.loop-j in
+    omega (arith, c.item_end-place.ensures, loop.invariant.1, item_end_most line loop.place, item_place_most line (loop.j + 1))
 
-loop-again : tie.Need-loop-preserved invariant-loop decreases-loop
+loop-again : tie.Need-loop-j-preserved invariant-loop-j decreases-loop-j
 loop-again c =
     let turn = c.before.before.before in
-    let loop = turn.before.loop in (
-      first_more _ _ _ turn.loop-test.true loop.invariant.0 (sym (tested c.before.before) ∙ c.before.if1.false),
-      ap (λ n. n + 1) (c.item-end.ensures ∙ ap (item_end (start turn).args.line.now) loop.invariant.1) ∙ sym (item_place_more _ _),
+    let loop = turn.before.loop-j in (
+      first_more _ _ _ turn.loop-j-test.true loop.invariant.0 (sym (tested c.before.before) ∙ c.before.if-not-item_keeps.false),
+      ap (λ n. n + 1) (c.item_end-place.ensures ∙ ap (item_end (start turn).args.line.now) loop.invariant.1) ∙ sym (item_place_more _ _),
     )
 
-returns-2 : tie.Need-returns-2 invariant-loop decreases-loop
+returns-2 : tie.Need-returns invariant-loop-j decreases-loop-j
 unfolding bad_item
 returns-2 c =
-    let all : c.before.loop.j ≡ c.before.before.before.before.args.m = omega arith in
-    all ∙ first_none _ _ _ c.loop-test.false c.before.loop.invariant.0
+    let all : c.before.loop-j.j ≡ c.before.before.before.before.args.m = omega arith in
+    all ∙ first_none _ _ _ c.loop-j-test.false c.before.loop-j.invariant.0
 
-pub bad-item-spec : {M : Type 1} → statement M
-bad-item-spec =
+pub bad_item_spec : {M : Type 1} → statement M
+bad_item_spec =
     tie.close
     (tie.spec
-    invariant-loop
-    decreases-loop
+    invariant-loop-j
+    decreases-loop-j
     (λ c κs. search rules)
     loop-holds
     (λ c κs. search rules)

@@ -11,44 +11,44 @@ use Rattle.console_lines.specs.Words.{number_keeps}
 use Rattle.console_lines.proofs.words.number_keeps.Statement.{statement}
 use Rattle.console_lines.proofs.words.number_keeps.Tie as tie
 
-abbrev start : tie.After-decimal-at → tie.Start
+abbrev start : tie.After-decimal_at-x → tie.Start
 start c = c.before.before
 
 -- where the decimal was read
-abbrev read : tie.Else1 → tie.After-decimal-at
+abbrev read : tie.Else-not-x → tie.After-decimal_at-x
 read c = c.before.before
 
-stands : (c : tie.Else1) → is_decimal (start (read c)).args.line.now (start (read c)).args.from ≡ true
-stands c = sym (decimal_stands _ _ (read c).decimal-at.ensures) ∙ not-false _ c.if1.false
+stands : (c : tie.Else-not-x) → is_decimal (start (read c)).args.line.now (start (read c)).args.from ≡ true
+stands c = sym (decimal_stands _ _ (read c).decimal_at-x.ensures) ∙ not-false _ c.if-not-x.false
 
-returns : tie.Need-returns
+returns : tie.Need-returns-then-not-x
 unfolding number_keeps
-returns c = rw (sym (decimal_stands _ _ c.before.before.decimal-at.ensures) ∙ not-true _ c.if1.true)
+returns c = rw (sym (decimal_stands _ _ c.before.before.decimal_at-x.ensures) ∙ not-true _ c.if-not-x.true)
 
-returns-2 : tie.Need-returns-2
+returns-2 : tie.Need-returns-then-x-item_end
 unfolding number_keeps
 returns-2 c =
     let ends = c.before.before in
     let found = read ends.before in
     let given = (start found).args in
-    let end = decimal_end given.line.now given.from found.decimal-at.ensures in
+    let end = decimal_end given.line.now given.from found.decimal_at-x.ensures in
     rw (
       stands ends.before,
-      ne_eqb (digits_end given.line.now given.from) (item_end given.line.now given.from) (λ e. c.if2.true (end ∙ e ∙ sym ends.item-end.ensures)),
+      ne_eqb (digits_end given.line.now given.from) (item_end given.line.now given.from) (λ e. c.if-x-item_end.true (end ∙ e ∙ sym ends.item_end.ensures)),
     )
 
-returns-3 : tie.Need-returns-3
+returns-3 : tie.Need-returns
 unfolding number_keeps
 returns-3 c =
     let ends = c.before.before.before in
     let found = read ends.before in
     let given = (start found).args in
-    let end = decimal_end given.line.now given.from found.decimal-at.ensures in
+    let end = decimal_end given.line.now given.from found.decimal_at-x.ensures in
     rw (
       stands ends.before,
-      eq-eqb (digits_end given.line.now given.from) (item_end given.line.now given.from) (sym end ∙ c.before.if2.false ∙ ends.item-end.ensures),
+      eq-eqb (digits_end given.line.now given.from) (item_end given.line.now given.from) (sym end ∙ c.before.if-x-item_end.false ∙ ends.item_end.ensures),
     )
-    (ap (λ n. leb n given.limit) (decimal_number _ _ found.decimal-at.ensures (stands ends.before)))
+    (ap (λ n. leb n given.limit) (decimal_number _ _ found.decimal_at-x.ensures (stands ends.before)))
 
-pub number-keeps-spec : {M : Type 1} → statement M
-number-keeps-spec = tie.close (tie.spec (λ c κs. search rules) returns (λ c κs. search rules) returns-2 returns-3)
+pub number_keeps_spec : {M : Type 1} → statement M
+number_keeps_spec = tie.close (tie.spec (λ c κs. search rules) returns (λ c κs. search rules) returns-2 returns-3)

@@ -17,20 +17,20 @@ returns c =
     let read = help.before.before in
     let points = read.before.before in
     rw (
-      c.word-or10.ensures,
-      lend.word-or9.ensures,
-      deal.word-or8.ensures,
-      deliver.word-or7.ensures,
-      recover.word-or6.ensures,
-      show.word-or5.ensures,
-      help.word-or4.ensures,
-      read.word-or3.ensures,
-      points.word-or2.ensures,
-      points.before.before.word-or.ensures,
+      c.word_or.ensures,
+      lend.word_or-word-9.ensures,
+      deal.word_or-word-8.ensures,
+      deliver.word_or-word-7.ensures,
+      recover.word_or-word-6.ensures,
+      show.word_or-word-5.ensures,
+      help.word_or-word-4.ensures,
+      read.word_or-word-3.ensures,
+      points.word_or-word-2.ensures,
+      points.before.before.word_or-word.ensures,
     )
 
-pub word-of-spec : {M : Type 1} → statement M
-word-of-spec =
+pub word_of_spec : {M : Type 1} → statement M
+word_of_spec =
     tie.close
     (tie.spec
     (λ c. search rules) (λ c κs. search rules) (λ c. search rules) (λ c κs. search rules)

@@ -4,10 +4,10 @@ use borrow.Author.Rules.{rules}
 use Rattle.console_lines.proofs.words.word_or.Statement.{statement}
 use Rattle.console_lines.proofs.words.word_or.Tie as tie
 
-pub word-or-spec : {M : Type 1} → statement M
-word-or-spec =
+pub word_or_spec : {M : Type 1} → statement M
+word_or_spec =
     tie.close
     (tie.spec
     (λ c κs. search rules)
-    (λ c. rw (sym c.before.word-is.ensures ∙ c.if1.true))
-    (λ c. rw (sym c.before.word-is.ensures ∙ c.if1.false)))
+    (λ c. rw (sym c.before.word_is.ensures ∙ c.if-word_is.true))
+    (λ c. rw (sym c.before.word_is.ensures ∙ c.if-word_is.false)))

@@ -17,7 +17,7 @@ returns c =
     let second = third.before.before.before.before in
     let first = second.before.before.before.before in
     let given = first.before.before.before.before.before.before.args in
-    let page = given.page.now in
+    let page = given.page-1.now in
     let at = given.at in
     let a = told_text given.a in
     let b = a ++ flag_text given.a.completed in
@@ -26,13 +26,13 @@ returns c =
     puts_then_word page at (d ++ two) (text "\n") 62
     (puts_then page at d two 50 12
     (puts_then page at b (flag_text given.a.recovered) 46 4
-    (puts_then page at a (flag_text given.a.completed) 42 4 first.put-told.ensures second.put-flag.ensures)
-    third.put-flag2.ensures)
-    fourth.put_two.ensures)
+    (puts_then page at a (flag_text given.a.completed) 42 4 first.put_told-next.ensures second.put_flag-next.ensures)
+    third.put_flag-next-2.ensures)
+    fourth.put_two-next.ensures)
     fifth.put_word.ensures
 
-pub put-answer-spec : {M : Type 1} → statement M
-put-answer-spec =
+pub put_answer_spec : {M : Type 1} → statement M
+put_answer_spec =
     tie.close
     (tie.spec
     (λ c κs. search rules) (λ c κs. search rules) (λ c κs. search rules) (λ c. search rules)

@@ -15,58 +15,58 @@ use Rattle.console_page.proofs.answers.put_each.Tie as tie
 abbrev line_of : ℕ → List ℕ → ℕ → List ℕ
 line_of size buffer j = message_line (j + 1) buffer (j * size) size
 
-abbrev invariant-loop : tie.invariant-loop
-invariant-loop page₀ at n size buffer next₀ from₀ j₀ number₀ page next from j number =
+abbrev invariant-loop-j : tie.invariant-loop-j
+invariant-loop-j page₀ at n size buffer next₀ from₀ j₀ number₀ page next from j number =
     PutRuns (line_of size buffer) (10 + 2 * size) n at page₀ page next j × (from ≡ j * size) × (number ≡ j + 1)
 
-abbrev decreases-loop : tie.decreases-loop
-decreases-loop page₀ at n size buffer next₀ from₀ j₀ number₀ page next from j number = n - j
+abbrev decreases-loop-j : tie.decreases-loop-j
+decreases-loop-j page₀ at n size buffer next₀ from₀ j₀ number₀ page next from j number = n - j
 
 -- where the next message begins
 next-from : (j size : ℕ) {from : ℕ} → from ≡ j * size → from + size ≡ (j + 1) * size
 next-from j size e = ap (λ (i : ℕ). i + size) e ∙ sym (suc-mul j size) ∙ ap (λ (i : ℕ). i * size) (sym (add-one j))
 
-put-message-requires : tie.Need-put-message-requires invariant-loop decreases-loop
+put-message-requires : tie.Need-put_message-next-requires invariant-loop-j decreases-loop-j
 put-message-requires c κs =
-    let loop = c.before.before.loop in
+    let loop = c.before.before.loop-j in
     let given = c.before.before.before.before.before.args in
     let e = loop.invariant.1 in
     let room = loop.invariant.0.room in
     let same = loop.invariant.0.same in
-    let l = message_within loop.j given.n given.size c.before.loop-test.true in
+    let l = message_within loop.j given.n given.size c.before.loop-j-test.true in
     (omega arith, omega arith)
 
-add-from : tie.Need-overflow-add-from invariant-loop decreases-loop
+add-from : tie.Need-overflow_add-from invariant-loop-j decreases-loop-j
 add-from c =
     let turn = c.before.before.before.before in
     let given = turn.before.before.before.before.args in
-    omega (arith, turn.before.loop.invariant.1, message_within turn.before.loop.j given.n given.size turn.loop-test.true)
+    omega (arith, turn.before.loop-j.invariant.1, message_within turn.before.loop-j.j given.n given.size turn.loop-j-test.true)
 
-loop-again : tie.Need-loop-preserved invariant-loop decreases-loop
+loop-again : tie.Need-loop-j-preserved invariant-loop-j decreases-loop-j
 loop-again c =
     let turn = c.before.before.before.before in
-    let loop = turn.before.loop in
-    let line = rw (loop.invariant.1, loop.invariant.2) at c.before.before.put-message.ensures in
-    (runs_more loop.invariant.0 turn.loop-test.true line, next-from loop.j _ loop.invariant.1, ap (λ (i : ℕ). i + 1) loop.invariant.2)
+    let loop = turn.before.loop-j in
+    let line = rw (loop.invariant.1, loop.invariant.2) at c.before.before.put_message-next.ensures in
+    (runs_more loop.invariant.0 turn.loop-j-test.true line, next-from loop.j _ loop.invariant.1, ap (λ (i : ℕ). i + 1) loop.invariant.2)
 
-returns : tie.Need-returns invariant-loop decreases-loop
+returns : tie.Need-returns invariant-loop-j decreases-loop-j
 unfolding each_line
 returns c =
     let given = c.before.before.before.before.args in
-    puts_room given.page.now given.at (each_line given.n given.size given.buffer.now) (given.n * (10 + 2 * given.size)) (100 + 2 * length given.buffer.now)
+    puts_room given.page-1.now given.at (each_line given.n given.size given.buffer.now) (given.n * (10 + 2 * given.size)) (100 + 2 * length given.buffer.now)
     (omega arith)
-    (runs_all c.before.loop.invariant.0 c.loop-test.false)
+    (runs_all c.before.loop-j.invariant.0 c.loop-j-test.false)
 
-pub put-each-spec : {M : Type 1} → statement M
-put-each-spec =
+pub put_each_spec : {M : Type 1} → statement M
+put_each_spec =
     tie.close
     (tie.spec
-    invariant-loop
-    decreases-loop
+    invariant-loop-j
+    decreases-loop-j
     (λ c. (runs_none _ _ _ _ _, omega arith, refl))
     put-message-requires
     add-from
     (λ c. omega arith) (λ c. omega arith) (λ c. omega arith)
     loop-again
-    (λ c. c.before.loop.invariant.0.same)
+    (λ c. c.before.loop-j.invariant.0.same)
     returns)

@@ -15,14 +15,14 @@ returns c =
     let second = third.before.before.before.before.before in
     let first = second.before.before.before.before in
     let given = first.before.before.before.before.args in
-    let page = given.page.now in
+    let page = given.page-1.now in
     let at = given.at in
     puts_then_word page at (text "lent " ++ numeral given.lent) (text "\n") 25
-    (puts_then page at (text "lent ") (numeral given.lent) 5 20 (puts_word page at (text "lent ") first.put_word.ensures) second.put-number.ensures)
-    third.put-word2.ensures
+    (puts_then page at (text "lent ") (numeral given.lent) 5 20 (puts_word page at (text "lent ") first.put_word-next.ensures) second.put_number-next.ensures)
+    third.put_word.ensures
 
-pub put-lent-spec : {M : Type 1} → statement M
-put-lent-spec =
+pub put_lent_spec : {M : Type 1} → statement M
+put_lent_spec =
     tie.close
     (tie.spec
     (λ c. search rules) (λ c κs. search rules) (λ c κs. search rules) (λ c. search rules) (λ c κs. search rules) (λ c. search rules)

@@ -31,7 +31,7 @@ returns c =
     let second = third.before.before.before.before in
     let first = second.before.before.before.before.before in
     let given = first.before.before.before.before.before.args in
-    let page = given.page.now in
+    let page = given.page-1.now in
     let at = given.at in
     let size = given.size in
     let a = text "to " ++ decimal given.j in
@@ -39,12 +39,12 @@ returns c =
     puts_room page at (a ++ text " " ++ hex ++ text "\n") (9 + 2 * size + 1) (10 + 2 * size) (omega arith)
     (puts_then_word page at (a ++ text " " ++ hex) (text "\n") (9 + 2 * size)
     (puts_then page at (a ++ text " ") hex 9 (2 * size)
-    (puts_then_word page at a (text " ") 8 first.put-numbered.ensures second.put_word.ensures)
-    (hex-put _ _ given.buffer.now given.from size third.put-hex.ensures))
-    fourth.put-word2.ensures)
+    (puts_then_word page at a (text " ") 8 first.put_numbered-next.ensures second.put_word-next.ensures)
+    (hex-put _ _ given.buffer.now given.from size third.put_hex-next.ensures))
+    fourth.put_word.ensures)
 
-pub put-message-spec : {M : Type 1} → statement M
-put-message-spec =
+pub put_message_spec : {M : Type 1} → statement M
+put_message_spec =
     tie.close
     (tie.spec
     (λ c. search rules) (λ c κs. search rules) (λ c. search rules) (λ c κs. search rules) (λ c κs. search rules)

@@ -16,18 +16,18 @@ returns c =
     let second = third.before.before.before.before.before in
     let first = second.before.before.before.before in
     let given = first.before.before.before.before.before.args in
-    let page = given.page.now in
+    let page = given.page-1.now in
     let at = given.at in
     let a = text "answer " ++ decimal given.a.no in
     let b = a ++ sent_text given.a.sent in
     puts_then page at (b ++ text " ") (numeral given.a.bytes) 22 20
     (puts_then_word page at b (text " ") 21
-    (puts_then page at a (sent_text given.a.sent) 12 9 first.put-numbered.ensures second.put-sent.ensures)
-    third.put_word.ensures)
-    fourth.put-number.ensures
+    (puts_then page at a (sent_text given.a.sent) 12 9 first.put_numbered-next.ensures second.put_sent-next.ensures)
+    third.put_word-next.ensures)
+    fourth.put_number.ensures
 
-pub put-told-spec : {M : Type 1} → statement M
-put-told-spec =
+pub put_told_spec : {M : Type 1} → statement M
+put_told_spec =
     tie.close
     (tie.spec
     (λ c. search rules) (λ c. search rules) (λ c κs. search rules) (λ c κs. search rules) (λ c. search rules)

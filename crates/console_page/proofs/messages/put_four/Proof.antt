@@ -16,11 +16,11 @@ returns c =
     let first = second.before.before.before.before.before in
     let given = first.before.before.before.before.before.before.before.before.args in
     let f = given.f in
-    puts_then given.page.now given.at (text " alpha " ++ two_text (α f) (α' f)) (text " beta " ++ two_text (β f) (β' f)) 18 17
-    first.put_two.ensures second.put-two2.ensures
+    puts_then given.page-1.now given.at (text " alpha " ++ two_text (α f) (α' f)) (text " beta " ++ two_text (β f) (β' f)) 18 17
+    first.put_two-next.ensures second.put_two.ensures
 
-pub put-four-spec : {M : Type 1} → statement M
-put-four-spec =
+pub put_four_spec : {M : Type 1} → statement M
+put_four_spec =
     tie.close
     (tie.spec
     (λ c. search rules) (λ c κs. search rules) (λ c. search rules) (λ c κs. search rules) (λ c. search rules)

@@ -14,15 +14,15 @@ returns c =
     let second = third.before.before.before.before in
     let first = second.before.before.before.before.before in
     let given = first.before.before.before.before.args in
-    let page = given.page.now in
+    let page = given.page-1.now in
     let at = given.at in
     let a = text " k " ++ decimal given.k in
     puts_then page at (a ++ text " matrix") (entries_text given.k given.c) 15 384
-    (puts_then_word page at a (text " matrix") 8 first.put-numbered.ensures second.put_word.ensures)
+    (puts_then_word page at a (text " matrix") 8 first.put_numbered-next.ensures second.put_word-next.ensures)
     third.put_entries.ensures
 
-pub put-matrix-spec : {M : Type 1} → statement M
-put-matrix-spec =
+pub put_matrix_spec : {M : Type 1} → statement M
+put_matrix_spec =
     tie.close
     (tie.spec
     (λ c. search rules) (λ c. search rules) (λ c κs. search rules) (λ c. search rules) (λ c κs. search rules)

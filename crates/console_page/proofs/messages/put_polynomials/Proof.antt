@@ -16,7 +16,7 @@ returns c =
     let second = third.before.before.before.before.before in
     let first = second.before.before.before.before.before in
     let given = first.before.before.before.before.before.before.before.before.args in
-    let page = given.page.now in
+    let page = given.page-1.now in
     let at = given.at in
     let k = given.k in
     let a = text " a" ++ numbers_text k (coefficient given.p.a) in
@@ -25,12 +25,12 @@ returns c =
     let b' = text " b'" ++ numbers_text k (coefficient given.p.b2) in
     puts_then page at (a ++ a' ++ b) b' 151 51
     (puts_then page at (a ++ a') b 101 50
-    (puts_then page at a a' 50 51 first.put-exponents.ensures second.put-exponents2.ensures)
-    third.put-exponents3.ensures)
-    fourth.put-exponents4.ensures
+    (puts_then page at a a' 50 51 first.put_exponents-next.ensures second.put_exponents-next-2.ensures)
+    third.put_exponents-next-3.ensures)
+    fourth.put_exponents.ensures
 
-pub put-polynomials-spec : {M : Type 1} → statement M
-put-polynomials-spec =
+pub put_polynomials_spec : {M : Type 1} → statement M
+put_polynomials_spec =
     tie.close
     (tie.spec
     (λ c. search rules) (λ c κs. search rules) (λ c. search rules) (λ c κs. search rules) (λ c. search rules)

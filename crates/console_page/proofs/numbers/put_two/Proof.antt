@@ -26,8 +26,8 @@ returns c =
     let a = w ++ decimal given.x in
     let b = text " " ++ decimal given.y in
     rw (apart w given.x given.y)
-    (puts_room given.page.now given.at (a ++ b) (length w + 5 + 6) (length w + 11) (omega arith)
-    (puts_then given.page.now given.at a b (length w + 5) 6 first.put-numbered.ensures second.put-numbered2.ensures))
+    (puts_room given.page-1.now given.at (a ++ b) (length w + 5 + 6) (length w + 11) (omega arith)
+    (puts_then given.page-1.now given.at a b (length w + 5) 6 first.put_numbered-next.ensures second.put_numbered.ensures))
 
-pub put-two-spec : {M : Type 1} → statement M
-put-two-spec = tie.close (tie.spec (λ c κs. search rules) (λ c. search rules) (λ c κs. search rules) (λ c. search rules) returns)
+pub put_two_spec : {M : Type 1} → statement M
+put_two_spec = tie.close (tie.spec (λ c κs. search rules) (λ c. search rules) (λ c κs. search rules) (λ c. search rules) returns)

@@ -19,7 +19,7 @@ returns c =
     let first = session.before.before.before.before.before in
     let wide = first.before in
     let given = wide.before.before.before.before.before.before.args in
-    let page = given.page.now in
+    let page = given.page-1.now in
     let at = given.at in
     let kind = given.kind.now in
     let s = given.s.now in
@@ -27,11 +27,11 @@ returns c =
     let b = text " session " ++ decimal (word s 4) in
     puts_room page at (a ++ b) (length kind + 5 + 14) (length kind + 19) (omega arith)
     (puts_then page at a b (length kind + 5) 14
-    (rw wide.wide.ensures at first.put-numbered.ensures)
-    (rw session.session-in.ensures at second.put-numbered2.ensures))
+    (rw wide.wide.ensures at first.put_numbered-next.ensures)
+    (rw session.session_in.ensures at second.put_numbered.ensures))
 
-pub put-head-spec : {M : Type 1} → statement M
-put-head-spec =
+pub put_head_spec : {M : Type 1} → statement M
+put_head_spec =
     tie.close
     (tie.spec
     (λ c. search rules) (λ c κs. search rules) (λ c κs. search rules) (λ c. search rules) (λ c κs. search rules)

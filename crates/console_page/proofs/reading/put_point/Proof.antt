@@ -21,7 +21,7 @@ returns c =
     let matrix = second.before.before in
     let first = matrix.before.before.before in
     let given = first.before.before.before.before.before.args in
-    let page = given.page.now in
+    let page = given.page-1.now in
     let at = given.at in
     let s = given.s.now in
     let n = length given.kind.now + 19 in
@@ -31,12 +31,12 @@ returns c =
     puts_room page at (a ++ b ++ d ++ text "\n") (n + 399 + 35 + 1) (length given.kind.now + 454) (omega arith)
     (puts_then_word page at (a ++ b ++ d) (text "\n") (n + 399 + 35)
     (puts_then page at (a ++ b) d (n + 399) 35
-    (puts_then page at a b n 399 first.put-head.ensures (rw matrix.read-matrix.ensures at second.put-matrix.ensures))
-    (rw four.read-four.ensures at third.put_four.ensures))
+    (puts_then page at a b n 399 first.put_head-next.ensures (rw matrix.read_matrix-c.ensures at second.put_matrix-next.ensures))
+    (rw four.read_four-f.ensures at third.put_four-next.ensures))
     fourth.put_word.ensures)
 
-pub put-point-spec : {M : Type 1} → statement M
-put-point-spec =
+pub put_point_spec : {M : Type 1} → statement M
+put_point_spec =
     tie.close
     (tie.spec
     (λ c κs. search rules) (λ c κs. search rules) (λ c κs. search rules) (λ c κs. search rules) (λ c κs. search rules)

@@ -18,7 +18,7 @@ returns c =
     let matrix = second.before.before in
     let first = matrix.before.before.before in
     let given = first.before.before.before.before.before.args in
-    let page = given.page.now in
+    let page = given.page-1.now in
     let at = given.at in
     let s = given.s.now in
     let a = head_text (text "send dealer ") s in
@@ -26,12 +26,12 @@ returns c =
     let d = polynomials_text given.u.k (polynomials_in given.u s) in
     puts_then_word page at (a ++ b ++ d) (text "\n") 632
     (puts_then page at (a ++ b) d 430 202
-    (puts_then page at a b 31 399 first.put-head.ensures (rw matrix.read-matrix.ensures at second.put-matrix.ensures))
-    (rw polynomials.read-polynomials.ensures at third.put-polynomials.ensures))
+    (puts_then page at a b 31 399 first.put_head-next.ensures (rw matrix.read_matrix-c.ensures at second.put_matrix-next.ensures))
+    (rw polynomials.read_polynomials-p.ensures at third.put_polynomials-next.ensures))
     fourth.put_word.ensures
 
-pub put-send-spec : {M : Type 1} → statement M
-put-send-spec =
+pub put_send_spec : {M : Type 1} → statement M
+put_send_spec =
     tie.close
     (tie.spec
     (λ c. search rules) (λ c κs. search rules) (λ c κs. search rules) (λ c κs. search rules) (λ c κs. search rules)

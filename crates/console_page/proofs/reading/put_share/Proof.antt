@@ -17,18 +17,18 @@ returns c =
     let read = second.before.before.before.before.before in
     let first = read.before.before.before in
     let given = first.before.before.before.before.before.args in
-    let page = given.page.now in
+    let page = given.page-1.now in
     let at = given.at in
     let s = given.s.now in
     let p = pair_in s in
     let a = head_text (text "recovery dealer ") s in
-    let b = text " share " ++ two_text p.first.0 p.second.0 in
+    let b = text " share " ++ two_text p.first-1.0 p.second-1.0 in
     puts_then_word page at (a ++ b) (text "\n") 53
-    (puts_then page at a b 35 18 first.put-head.ensures (rw read.read-pair.ensures at second.put_two.ensures))
+    (puts_then page at a b 35 18 first.put_head-next.ensures (rw read.read_pair-pair.ensures at second.put_two-next.ensures))
     third.put_word.ensures
 
-pub put-share-spec : {M : Type 1} → statement M
-put-share-spec =
+pub put_share_spec : {M : Type 1} → statement M
+put_share_spec =
     tie.close
     (tie.spec
     (λ c. search rules) (λ c κs. search rules) (λ c κs. search rules) (λ c. search rules) (λ c κs. search rules)

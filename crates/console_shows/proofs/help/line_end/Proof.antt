@@ -11,32 +11,32 @@ use Rattle.console_shows.specs.Help.{line_end}
 use Rattle.console_shows.proofs.help.line_end.Statement.{statement}
 use Rattle.console_shows.proofs.help.line_end.Tie as tie
 
-abbrev invariant-loop : tie.invariant-loop
-invariant-loop b i j₀ j = first_from (length b - j) j (λ k. byte_at b k newline) ≡ line_end b i
+abbrev invariant-loop-j : tie.invariant-loop-j
+invariant-loop-j b i j₀ j = first_from (length b - j) j (λ k. byte_at b k newline) ≡ line_end b i
 
-abbrev decreases-loop : tie.decreases-loop
-decreases-loop b i j₀ j = length b - j
+abbrev decreases-loop-j : tie.decreases-loop-j
+decreases-loop-j b i j₀ j = length b - j
 
-loop-holds : tie.Need-loop-init invariant-loop decreases-loop
+loop-holds : tie.Need-loop-j-init invariant-loop-j decreases-loop-j
 unfolding line_end
 loop-holds c = refl
 
-returns : tie.Need-returns invariant-loop decreases-loop
-returns c = sym (first_from_here _ _ _ c.before.before.loop-test.true (sym c.before.byte-at.ensures ∙ c.if1.true)) ∙ c.before.before.before.loop.invariant
+returns : tie.Need-returns-then-byte_at invariant-loop-j decreases-loop-j
+returns c = sym (first_from_here _ _ _ c.before.before.loop-j-test.true (sym c.before.byte_at.ensures ∙ c.if-byte_at.true)) ∙ c.before.before.before.loop-j.invariant
 
-loop-again : tie.Need-loop-preserved invariant-loop decreases-loop
-loop-again c = sym (first_from_skip _ _ _ c.before.before.loop-test.true (sym c.before.byte-at.ensures ∙ c.if1.false)) ∙ c.before.before.before.loop.invariant
+loop-again : tie.Need-loop-j-preserved invariant-loop-j decreases-loop-j
+loop-again c = sym (first_from_skip _ _ _ c.before.before.loop-j-test.true (sym c.before.byte_at.ensures ∙ c.if-byte_at.false)) ∙ c.before.before.before.loop-j.invariant
 
-pub line-end-spec : {M : Type 1} → statement M
-line-end-spec =
+pub line_end_spec : {M : Type 1} → statement M
+line_end_spec =
     tie.close
     (tie.spec
-    invariant-loop
-    decreases-loop
+    invariant-loop-j
+    decreases-loop-j
     loop-holds
     (λ c κs. search rules)
     returns
     (λ c. omega arith)
     (λ c. omega arith)
     loop-again
-    (λ c. sym (first_from_none _ _ _ c.loop-test.false) ∙ c.before.loop.invariant))
+    (λ c. sym (first_from_none _ _ _ c.loop-j-test.false) ∙ c.before.loop-j.invariant))

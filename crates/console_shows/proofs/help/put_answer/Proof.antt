@@ -10,10 +10,10 @@ returns : tie.Need-returns
 unfolding help_line answer_lines text
 returns c =
     let given = c.before.before.before.before.before.before.before.before.before.before.before.args in
-    puts_then_word given.page.now given.at (line_of answer_lines given.n) (text "\n") 2059 c.before.before.before.before.before.before.before.put-line.ensures c.before.before.put_word.ensures
+    puts_then_word given.page-1.now given.at (line_of answer_lines given.n) (text "\n") 2059 c.before.before.before.before.before.before.before.put_line-next.ensures c.before.before.put_word.ensures
 
-pub put-answer-spec : {M : Type 1} → statement M
-put-answer-spec =
+pub put_answer_spec : {M : Type 1} → statement M
+put_answer_spec =
     tie.close
     (tie.spec
     (λ c. search rules) (λ c κs. search rules) (λ c. search rules) (λ c κs. search rules) (λ c. search rules)

@@ -9,7 +9,7 @@ use Rattle.console_shows.proofs.help.put_help.Tie as tie
 
 returns : tie.Need-returns
 unfolding help_lines text
-returns c = let given = c.before.before.before.before.before.before.args in puts_word_room given.page.now given.at help_lines 720 (omega arith) c.before.before.put_word.ensures
+returns c = let given = c.before.before.before.before.before.before.args in puts_word_room given.page-1.now given.at help_lines 720 (omega arith) c.before.before.put_word.ensures
 
-pub put-help-spec : {M : Type 1} → statement M
-put-help-spec = tie.close (tie.spec (λ c. search rules) (λ c κs. search rules) (λ c. search rules) returns)
+pub put_help_spec : {M : Type 1} → statement M
+put_help_spec = tie.close (tie.spec (λ c. search rules) (λ c κs. search rules) (λ c. search rules) returns)

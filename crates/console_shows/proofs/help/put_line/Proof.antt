@@ -8,26 +8,26 @@ use Rattle.console_shows.specs.Parts.{puts_nothing}
 use Rattle.console_shows.proofs.help.put_line.Statement.{statement}
 use Rattle.console_shows.proofs.help.put_line.Tie as tie
 
-returns : tie.Need-returns
+returns : tie.Need-returns-then-b-end
 returns c =
     let given = c.before.before.before.before.before.args in
     let b = given.b.now in
-    let end : c.before.line-end.result ≡ line_end b (line_place b given.n) = c.before.line-end.ensures ∙ ap (line_end b) c.before.before.line-place.ensures in
-    puts_nothing given.page.now given.at (line_of b given.n) (length b) (line_none b given.n (omega (arith, end, c.if1.true)))
+    let end : c.before.line_end-end.result ≡ line_end b (line_place b given.n) = c.before.line_end-end.ensures ∙ ap (line_end b) c.before.before.line_place-start.ensures in
+    puts_nothing given.page-1.now given.at (line_of b given.n) (length b) (line_none b given.n (omega (arith, end, c.if-b-end.true)))
 
-sub-put-word : tie.Need-overflow-sub-put-word
-sub-put-word c = omega (arith, line_end_low c.before.before.before.before.before.before.args.b.now c.before.before.before.line-place.result, c.before.before.line-end.ensures)
+sub-put-word : tie.Need-slice_bounds-put_word-count
+sub-put-word c = omega (arith, line_end_low c.before.before.before.before.before.before.args.b.now c.before.before.before.line_place-start.result, c.before.before.line_end-end.ensures)
 
-part-put-word-start : tie.Need-slice-bounds-put-word-start
-part-put-word-start c = omega (arith, line_end_low c.before.before.before.before.before.before.args.b.now c.before.before.before.line-place.result, c.before.before.line-end.ensures, c.before.if1.false)
+part-put-word-start : tie.Need-slice_bounds-put_word-start
+part-put-word-start c = omega (arith, line_end_low c.before.before.before.before.before.before.args.b.now c.before.before.before.line_place-start.result, c.before.before.line_end-end.ensures, c.before.if-b-end.false)
 
-returns-2 : tie.Need-returns-2
+returns-2 : tie.Need-returns
 returns-2 c =
     let given = c.before.before.before.before.before.before.before.before.before.before.args in
-    line_puts given.b.now given.page.now given.at given.n c.before.before.before.before.before.before.before.line-place.ensures c.before.before.before.before.before.before.line-end.ensures c.before.before.put_word.ensures
+    line_puts given.b.now given.page-1.now given.at given.n c.before.before.before.before.before.before.before.line_place-start.ensures c.before.before.before.before.before.before.line_end-end.ensures c.before.before.put_word.ensures
 
-pub put-line-spec : {M : Type 1} → statement M
-put-line-spec =
+pub put_line_spec : {M : Type 1} → statement M
+put_line_spec =
     tie.close
     (tie.spec
     (λ c κs. search rules) (λ c κs. search rules)

@@ -9,16 +9,16 @@ use Rattle.console_shows.specs.Parts.{box_in}
 use Rattle.console_shows.proofs.parts.put_box.Statement.{statement}
 use Rattle.console_shows.proofs.parts.put_box.Tie as tie
 
-returns : tie.Need-returns
+returns : tie.Need-bounds-marks-m
 unfolding box_in
-returns c = rw (not-true (marked c.before.before.before.args.t3 c.before.before.before.args.m) c.if1.true) (omega arith, omega arith, refl)
+returns c = rw (not-true (marked c.before.before.before.args.t3 c.before.before.before.args.m) c.if-not-marks-m.true) (omega arith, omega arith, refl)
 
-returns-2 : tie.Need-returns-2
+returns-2 : tie.Need-returns
 unfolding box_in text
-returns-2 c = rw (not-false (marked c.before.before.before.before.before.before.before.before.args.t3 c.before.before.before.before.before.before.before.before.args.m) c.before.before.before.before.before.if1.false) c.before.before.put-numbered.ensures
+returns-2 c = rw (not-false (marked c.before.before.before.before.before.before.before.before.args.t3 c.before.before.before.before.before.before.before.before.args.m) c.before.before.before.before.before.if-not-marks-m.false) c.before.before.put_numbered.ensures
 
-pub put-box-spec : {M : Type 1} → statement M
-put-box-spec =
+pub put_box_spec : {M : Type 1} → statement M
+put_box_spec =
     tie.close
     (tie.spec
     (λ c. search rules)

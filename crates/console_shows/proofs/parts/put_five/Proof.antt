@@ -18,47 +18,47 @@ use Rattle.console_shows.proofs.parts.put_five.Tie as tie
 abbrev digitIn : ℕ → ℕ → List ℕ
 digitIn x j = digit_of x (10 ^ (4 - j)) ∷ []
 
-abbrev invariant-loop : tie.invariant-loop
-invariant-loop page₀ at x next₀ power₀ j₀ page next power j = PutRuns (digitIn x) 1 4 at page₀ page next j × (power ≡ 10 ^ (4 - j))
+abbrev invariant-loop-j : tie.invariant-loop-j
+invariant-loop-j page₀ at x next₀ power₀ j₀ page next power j = PutRuns (digitIn x) 1 4 at page₀ page next j × (power ≡ 10 ^ (4 - j))
 
-abbrev decreases-loop : tie.decreases-loop
-decreases-loop page₀ at x next₀ power₀ j₀ page next power j = 4 - j
+abbrev decreases-loop-j : tie.decreases-loop-j
+decreases-loop-j page₀ at x next₀ power₀ j₀ page next power j = 4 - j
 
 digit : (y : ℕ) → y % 10 < 10
 digit y = mod-lt y {m = 10} (omega arith)
 
-loop-again : tie.Need-loop-preserved invariant-loop decreases-loop
+loop-again : tie.Need-loop-j-preserved invariant-loop-j decreases-loop-j
 loop-again c =
-    let loop = c.before.loop in
+    let loop = c.before.loop-j in
     let x = c.before.before.args.x in (
-      runs_more loop.invariant.0 c.loop-test.true (puts_byte loop.page loop.next (ap (digit_of x) loop.invariant.1)),
-      power_next loop.j c.loop-test.true loop.invariant.1,
+      runs_more loop.invariant.0 c.loop-j-test.true (puts_byte loop.page loop.next (ap (digit_of x) loop.invariant.1)),
+      power_next loop.j c.loop-j-test.true loop.invariant.1,
     )
 
-returns : tie.Need-returns invariant-loop decreases-loop
+returns : tie.Need-returns invariant-loop-j decreases-loop-j
 unfolding five_digits
 returns c =
     let given = c.before.before.args in
-    let loop = c.before.loop in
+    let loop = c.before.loop-j in
     puts_then given.page.now given.at (gather 4 (digitIn given.x)) (digit_of given.x 1 ∷ []) 4 1
-    (runs_all loop.invariant.0 c.loop-test.false)
+    (runs_all loop.invariant.0 c.loop-j-test.false)
     (puts_byte loop.page loop.next (ap (λ (y : ℕ). 48 + y % 10) (sym (div-one given.x))))
 
-pub put-five-spec : {M : Type 1} → statement M
-put-five-spec =
+pub put_five_spec : {M : Type 1} → statement M
+put_five_spec =
     tie.close
     (tie.spec
-    invariant-loop
-    decreases-loop
+    invariant-loop-j
+    decreases-loop-j
     (λ c. (runs_none _ 1 4 _ _, refl))
-    (λ c. omega (arith, power_positive (4 - c.before.loop.j)))
-    (λ c. omega (arith, digit (c.before.before.args.x / c.before.loop.power)))
-    (λ c. omega (arith, digit (c.before.before.args.x / c.before.loop.power)))
+    (λ c. omega (arith, power_positive (4 - c.before.loop-j.j)))
+    (λ c. omega (arith, digit (c.before.before.args.x / c.before.loop-j.power)))
+    (λ c. omega (arith, digit (c.before.before.args.x / c.before.loop-j.power)))
     (λ c. omega arith) (λ c. omega arith) (λ c. omega arith) (λ c. omega arith)
     loop-again
     (λ c. omega (arith, digit c.before.before.args.x))
     (λ c. omega (arith, digit c.before.before.args.x))
     (λ c. omega arith)
     (λ c. omega arith)
-    (λ c. simp length-set c.before.loop.invariant.0.same)
+    (λ c. simp length-set c.before.loop-j.invariant.0.same)
     returns)

@@ -5,7 +5,7 @@ use Rattle.console_shows.proofs.parts.put_listed.Statement.{statement}
 use Rattle.console_shows.proofs.parts.put_listed.Tie as tie
 
 returns : tie.Need-returns
-returns c = let given = c.before.before.before.before.before.before.before.before.before.before.args in word_then given.page.now given.at given.word.now _ 60 c.before.before.before.before.before.before.put_word.ensures c.before.before.put-boxes.ensures
+returns c = let given = c.before.before.before.before.before.before.before.before.before.before.args in word_then given.page-1.now given.at given.word.now _ 60 c.before.before.before.before.before.before.put_word-next.ensures c.before.before.put_boxes.ensures
 
-pub put-listed-spec : {M : Type 1} → statement M
-put-listed-spec = tie.close (tie.spec (λ c κs. search rules) (λ c κs. search rules) (λ c. search rules) returns)
+pub put_listed_spec : {M : Type 1} → statement M
+put_listed_spec = tie.close (tie.spec (λ c κs. search rules) (λ c κs. search rules) (λ c. search rules) returns)

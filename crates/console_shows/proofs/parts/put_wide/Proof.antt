@@ -9,21 +9,21 @@ use Rattle.console_shows.specs.Parts.{wide, five_digits}
 use Rattle.console_shows.proofs.parts.put_wide.Statement.{statement}
 use Rattle.console_shows.proofs.parts.put_wide.Tie as tie
 
-returns : tie.Need-returns
+returns : tie.Need-returns-then-x-lt100000
 unfolding wide
 returns c =
     let given = c.before.before.before.before.before.before.args in
-    rw (lt-ltb given.x 100000 c.before.before.before.before.if1.true) (puts_room given.page.now given.at (decimal given.x) 5 10 (omega arith) c.before.before.put-decimal.ensures)
+    rw (lt-ltb given.x 100000 c.before.before.before.before.if-x-lt100000.true) (puts_room given.page-1.now given.at (decimal given.x) 5 10 (omega arith) c.before.before.put_decimal.ensures)
 
-returns-2 : tie.Need-returns-2
+returns-2 : tie.Need-returns
 unfolding wide
 returns-2 c =
     let given = c.before.before.before.before.before.before.before.before.before.before.args in
-    rw (le-ltb given.x 100000 c.before.before.before.before.before.before.before.before.if1.false)
-    (puts_then given.page.now given.at (decimal (given.x / 100000)) (five_digits given.x) 5 5 c.before.before.before.before.before.before.put-decimal2.ensures c.before.before.put_five.ensures)
+    rw (le-ltb given.x 100000 c.before.before.before.before.before.before.before.before.if-x-lt100000.false)
+    (puts_then given.page-1.now given.at (decimal (given.x / 100000)) (five_digits given.x) 5 5 c.before.before.before.before.before.before.put_decimal-next.ensures c.before.before.put_five.ensures)
 
-pub put-wide-spec : {M : Type 1} → statement M
-put-wide-spec =
+pub put_wide_spec : {M : Type 1} → statement M
+put_wide_spec =
     tie.close
     (tie.spec
     (λ c κs. search rules) (λ c. search rules)

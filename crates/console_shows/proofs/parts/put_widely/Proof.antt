@@ -5,7 +5,7 @@ use Rattle.console_shows.proofs.parts.put_widely.Statement.{statement}
 use Rattle.console_shows.proofs.parts.put_widely.Tie as tie
 
 returns : tie.Need-returns
-returns c = let given = c.before.before.before.before.before.before.before.before.before.before.args in word_then given.page.now given.at given.word.now _ 10 c.before.before.before.before.before.before.put_word.ensures c.before.before.put-wide.ensures
+returns c = let given = c.before.before.before.before.before.before.before.before.before.before.args in word_then given.page-1.now given.at given.word.now _ 10 c.before.before.before.before.before.before.put_word-next.ensures c.before.before.put_wide.ensures
 
-pub put-widely-spec : {M : Type 1} → statement M
-put-widely-spec = tie.close (tie.spec (λ c κs. search rules) (λ c κs. search rules) (λ c. search rules) returns)
+pub put_widely_spec : {M : Type 1} → statement M
+put_widely_spec = tie.close (tie.spec (λ c κs. search rules) (λ c κs. search rules) (λ c. search rules) returns)

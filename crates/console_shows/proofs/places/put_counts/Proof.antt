@@ -11,11 +11,11 @@ use Rattle.console_shows.specs.Show.{counts_text, count_small}
 use Rattle.console_shows.proofs.places.put_counts.Statement.{statement}
 use Rattle.console_shows.proofs.places.put_counts.Tie as tie
 
-put-numbered-requires-2 : tie.Need-put-numbered-requires-2
-put-numbered-requires-2 c κs = (count_small c.before.before.before.before.before.before.before.before.before.before.before.before.args.slot.echoed c.before.before.before.before.before.before.before.before.count-marks.ensures, omega arith)
+put-numbered-requires-2 : tie.Need-put_numbered-next-requires
+put-numbered-requires-2 c κs = (count_small c.before.before.before.before.before.before.before.before.before.before.before.before.args.slot.echoed c.before.before.before.before.before.before.before.before.count_marks-e.ensures, omega arith)
 
-put-numbered-requires-3 : tie.Need-put-numbered-requires-3
-put-numbered-requires-3 c κs = (count_small c.before.before.before.before.before.before.before.before.before.before.before.before.before.before.before.before.before.args.slot.readied c.before.before.before.before.before.before.before.before.before.before.before.before.count-marks2.ensures, omega arith)
+put-numbered-requires-3 : tie.Need-put_numbered-requires
+put-numbered-requires-3 c κs = (count_small c.before.before.before.before.before.before.before.before.before.before.before.before.before.before.before.before.before.args.slot.readied c.before.before.before.before.before.before.before.before.before.before.before.before.count_marks-r.ensures, omega arith)
 
 returns : tie.Need-returns
 unfolding counts_text count_e count_r count_marks text
@@ -24,15 +24,15 @@ returns c =
     let first = second.before.before.before.before.before in
     let read = first.before.before.before in
     let given = read.before.before.before.before.before.args in
-    let page = given.page.now in
+    let page = given.page-1.now in
     let place = numbered (text "place ") given.s in
     let e = numbered (text " e ") (count_e given.slot) in
     puts_then page given.at (place ++ e) (numbered (text " r ") (count_r given.slot)) 19 8
-    (puts_then page given.at place e 11 8 first.put-numbered.ensures (rw read.before.count-marks.ensures at second.put-numbered2.ensures))
-    (rw read.count-marks2.ensures at c.before.before.put-numbered3.ensures)
+    (puts_then page given.at place e 11 8 first.put_numbered-next.ensures (rw read.before.count_marks-e.ensures at second.put_numbered-next-2.ensures))
+    (rw read.count_marks-r.ensures at c.before.before.put_numbered.ensures)
 
-pub put-counts-spec : {M : Type 1} → statement M
-put-counts-spec =
+pub put_counts_spec : {M : Type 1} → statement M
+put_counts_spec =
     tie.close
     (tie.spec
     (λ c κs. search rules) (λ c κs. search rules) (λ c. search rules) (λ c. search rules) (λ c κs. search rules)

@@ -10,31 +10,31 @@ use Rattle.console_shows.specs.Show.{row_text, matrix_text}
 use Rattle.console_shows.proofs.places.put_matrix.Statement.{statement}
 use Rattle.console_shows.proofs.places.put_matrix.Tie as tie
 
-abbrev invariant-loop : tie.invariant-loop
-invariant-loop page₀ at k rows width next₀ j₀ page next j = PutRuns (λ i. row_text width (get_or rows i [])) 48 width at page₀ page next j
+abbrev invariant-loop-j : tie.invariant-loop-j
+invariant-loop-j page₀ at k rows width next₀ j₀ page next j = PutRuns (λ i. row_text width (get_or rows i [])) 48 width at page₀ page next j
 
-abbrev decreases-loop : tie.decreases-loop
-decreases-loop page₀ at k rows width next₀ j₀ page next j = width - j
+abbrev decreases-loop-j : tie.decreases-loop-j
+decreases-loop-j page₀ at k rows width next₀ j₀ page next j = width - j
 
-returns : tie.Need-returns invariant-loop decreases-loop
+returns : tie.Need-returns invariant-loop-j decreases-loop-j
 unfolding matrix_text
 returns c =
     let given = c.before.before.before.before.args in
-    let used = c.before.before.in_use_lem in
+    let used = c.before.before.in_use_lem-width in
     let width = used.result in
     rw (← used.ensures.0)
-    (puts_room given.page.now given.at (gather width (λ i. row_text width (get_or given.t4 i []))) (width * 48) 384 (omega arith)
-    (runs_all c.before.loop.invariant c.loop-test.false))
+    (puts_room given.page-1.now given.at (gather width (λ i. row_text width (get_or given.t4 i []))) (width * 48) 384 (omega arith)
+    (runs_all c.before.loop-j.invariant c.loop-j-test.false))
 
-pub put-matrix-spec : {M : Type 1} → statement M
-put-matrix-spec =
+pub put_matrix_spec : {M : Type 1} → statement M
+put_matrix_spec =
     tie.close
     (tie.spec
-    invariant-loop
-    decreases-loop
+    invariant-loop-j
+    decreases-loop-j
     (λ c κs. search rules)
     (λ c. runs_none _ 48 _ _ _)
     (λ c. search rules) (λ c. search rules) (λ c κs. search rules) (λ c. search rules) (λ c. search rules)
-    (λ c. runs_more c.before.before.before.before.before.before.loop.invariant c.before.before.before.before.before.loop-test.true c.before.before.put-row.ensures)
-    (λ c. c.before.loop.invariant.same)
+    (λ c. runs_more c.before.before.before.before.before.before.loop-j.invariant c.before.before.before.before.before.loop-j-test.true c.before.before.put_row-next.ensures)
+    (λ c. c.before.loop-j.invariant.same)
     returns)

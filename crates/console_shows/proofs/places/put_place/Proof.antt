@@ -16,18 +16,18 @@ returns c =
     let first = second.before.before.before.before.before in
     let read = first.before.before in
     let given = read.before.before.before.args in
-    let page = given.page.now in
+    let page = given.page-1.now in
     let at = given.at in
     let counts = counts_text given.s given.slot in
     let matrix = matrix_text given.k (matrix_of given.slot) in
     puts_then_word page at (counts ++ text " matrix" ++ matrix) (text "\n") 418
     (puts_then page at (counts ++ text " matrix") matrix 34 384
-    (puts_then_word page at counts (text " matrix") 27 first.put-counts.ensures second.put_word.ensures)
-    (rw read.matrix-of.ensures at third.put-matrix.ensures))
-    c.before.before.put-word2.ensures
+    (puts_then_word page at counts (text " matrix") 27 first.put_counts-next.ensures second.put_word-next.ensures)
+    (rw read.matrix_of-c.ensures at third.put_matrix-next.ensures))
+    c.before.before.put_word.ensures
 
-pub put-place-spec : {M : Type 1} → statement M
-put-place-spec =
+pub put_place_spec : {M : Type 1} → statement M
+put_place_spec =
     tie.close
     (tie.spec
     (λ c κs. search rules) (λ c κs. search rules) (λ c. search rules) (λ c κs. search rules) (λ c κs. search rules)

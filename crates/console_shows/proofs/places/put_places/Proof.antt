@@ -15,24 +15,24 @@ use Rattle.console_shows.proofs.places.put_places.Tie as tie
 abbrev line_of : ℕ → List Slot → ℕ → List ℕ
 line_of k slots s = pick (slot_in slots s).used (place_line k s (slot_in slots s)) []
 
-abbrev invariant-loop : tie.invariant-loop
-invariant-loop page₀ at k slots next₀ s₀ page next s = PutRuns (line_of k slots) 419 20 at page₀ page next s
+abbrev invariant-loop-s : tie.invariant-loop-s
+invariant-loop-s page₀ at k slots next₀ s₀ page next s = PutRuns (line_of k slots) 419 20 at page₀ page next s
 
-abbrev decreases-loop : tie.decreases-loop
-decreases-loop page₀ at k slots next₀ s₀ page next s = 20 - s
+abbrev decreases-loop-s : tie.decreases-loop-s
+decreases-loop-s page₀ at k slots next₀ s₀ page next s = 20 - s
 
-returns : tie.Need-returns invariant-loop decreases-loop
+returns : tie.Need-returns invariant-loop-s decreases-loop-s
 unfolding place_lines
-returns c = runs_all c.before.loop.invariant c.loop-test.false
+returns c = runs_all c.before.loop-s.invariant c.loop-s-test.false
 
-pub put-places-spec : {M : Type 1} → statement M
-put-places-spec =
+pub put_places_spec : {M : Type 1} → statement M
+put_places_spec =
     tie.close
     (tie.spec
-    invariant-loop
-    decreases-loop
+    invariant-loop-s
+    decreases-loop-s
     (λ c. runs_none _ 419 20 _ _)
     (λ c. search rules) (λ c. search rules) (λ c κs. search rules) (λ c. search rules) (λ c. search rules)
-    (λ c. runs_more c.before.before.before.before.before.before.loop.invariant c.before.before.before.before.before.loop-test.true c.before.before.put-if-used.ensures)
-    (λ c. c.before.loop.invariant.same)
+    (λ c. runs_more c.before.before.before.before.before.before.loop-s.invariant c.before.before.before.before.before.loop-s-test.true c.before.before.put_if_used-next.ensures)
+    (λ c. c.before.loop-s.invariant.same)
     returns)

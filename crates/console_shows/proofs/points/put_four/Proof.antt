@@ -16,19 +16,19 @@ returns c =
     let second = third.before.before.before.before.before.before in
     let first = second.before.before.before.before.before.before in
     let given = first.before.before.before.before.before.before.before.before.before.args in
-    let page = given.page.now in
+    let page = given.page-1.now in
     let at = given.at in
     let a = numbered (text " ") (α given.four) in
     let a' = numbered (text " ") (α' given.four) in
     let b = numbered (text " ") (β given.four) in
     puts_then page at (a ++ a' ++ b) (numbered (text " ") (β' given.four)) 18 6
     (puts_then page at (a ++ a') b 12 6
-    (puts_then page at a a' 6 6 first.put-numbered.ensures second.put-numbered2.ensures)
-    third.put-numbered3.ensures)
-    c.before.before.put-numbered4.ensures
+    (puts_then page at a a' 6 6 first.put_numbered-next.ensures second.put_numbered-next-2.ensures)
+    third.put_numbered-next-3.ensures)
+    c.before.before.put_numbered.ensures
 
-pub put-four-spec : {M : Type 1} → statement M
-put-four-spec =
+pub put_four_spec : {M : Type 1} → statement M
+put_four_spec =
     tie.close
     (tie.spec
     (λ c. search rules) (λ c. search rules) (λ c κs. search rules) (λ c. search rules) (λ c. search rules)

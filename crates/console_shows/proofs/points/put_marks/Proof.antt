@@ -12,12 +12,12 @@ returns : tie.Need-returns
 unfolding marks_text text
 returns c =
     let given = c.before.before.before.before.before.before.before.before.before.before.before.before.before.args in
-    puts_then given.page.now given.at (pick given.echoed (text " echo") []) (pick given.readied (text " ready") []) 5 6
-    c.before.before.before.before.before.before.before.before.put-either.ensures
-    c.before.before.put-either2.ensures
+    puts_then given.page-1.now given.at (pick given.echoed (text " echo") []) (pick given.readied (text " ready") []) 5 6
+    c.before.before.before.before.before.before.before.before.put_either-next.ensures
+    c.before.before.put_either.ensures
 
-pub put-marks-spec : {M : Type 1} → statement M
-put-marks-spec =
+pub put_marks_spec : {M : Type 1} → statement M
+put_marks_spec =
     tie.close
     (tie.spec
     (λ c. search rules) (λ c. search rules) (λ c κs. search rules) (λ c. search rules) (λ c. search rules)

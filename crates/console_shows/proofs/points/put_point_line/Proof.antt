@@ -14,12 +14,12 @@ returns c =
     let given = c.before.before.before.before.before.before.before.before.before.before.before.before.before.before.before.args in
     let slot = given.slot in
     let m = given.m in
-    puts_then given.page.now given.at (decimal (m + 1)) (point_text (marked slot.echoed m) (marked slot.readied m) (place_at slot m).point) 5 36
-    c.before.before.before.before.before.before.put-decimal.ensures
-    c.before.before.put-point.ensures
+    puts_then given.page-1.now given.at (decimal (m + 1)) (point_text (marked slot.echoed-1 m) (marked slot.readied-1 m) (place_at slot m).point) 5 36
+    c.before.before.before.before.before.before.put_decimal-next.ensures
+    c.before.before.put_point.ensures
 
-pub put-point-line-spec : {M : Type 1} → statement M
-put-point-line-spec =
+pub put_point_line_spec : {M : Type 1} → statement M
+put_point_line_spec =
     tie.close
     (tie.spec
     (λ c. search rules) (λ c. search rules) (λ c. search rules) (λ c. search rules) (λ c. search rules)

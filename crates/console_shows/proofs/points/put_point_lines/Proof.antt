@@ -8,30 +8,30 @@ use Rattle.console_shows.specs.Points.{point_line, point_lines}
 use Rattle.console_shows.proofs.points.put_point_lines.Statement.{statement}
 use Rattle.console_shows.proofs.points.put_point_lines.Tie as tie
 
-abbrev invariant-loop : tie.invariant-loop
-invariant-loop page₀ at n slot boxes next₀ m₀ page next m = PutRuns (point_line slot) 41 boxes at page₀ page next m
+abbrev invariant-loop-m : tie.invariant-loop-m
+invariant-loop-m page₀ at n slot boxes next₀ m₀ page next m = PutRuns (point_line slot) 41 boxes at page₀ page next m
 
-abbrev decreases-loop : tie.decreases-loop
-decreases-loop page₀ at n slot boxes next₀ m₀ page next m = boxes - m
+abbrev decreases-loop-m : tie.decreases-loop-m
+decreases-loop-m page₀ at n slot boxes next₀ m₀ page next m = boxes - m
 
-returns : tie.Need-returns invariant-loop decreases-loop
+returns : tie.Need-returns invariant-loop-m decreases-loop-m
 unfolding point_lines
 returns c =
     let given = c.before.before.before.before.args in
-    let used = c.before.before.in_use_lem in
+    let used = c.before.before.in_use_lem-boxes in
     rw (← used.ensures.0)
-    (puts_room given.page.now given.at (gather used.result (point_line given.slot)) (used.result * 41) 410 (omega arith)
-    (runs_all c.before.loop.invariant c.loop-test.false))
+    (puts_room given.page-1.now given.at (gather used.result (point_line given.slot)) (used.result * 41) 410 (omega arith)
+    (runs_all c.before.loop-m.invariant c.loop-m-test.false))
 
-pub put-point-lines-spec : {M : Type 1} → statement M
-put-point-lines-spec =
+pub put_point_lines_spec : {M : Type 1} → statement M
+put_point_lines_spec =
     tie.close
     (tie.spec
-    invariant-loop
-    decreases-loop
+    invariant-loop-m
+    decreases-loop-m
     (λ c κs. search rules)
     (λ c. runs_none _ 41 _ _ _)
     (λ c κs. search rules) (λ c. search rules) (λ c. search rules)
-    (λ c. runs_more c.before.before.before.before.before.loop.invariant c.before.before.before.before.loop-test.true c.before.before.put-point-line.ensures)
-    (λ c. c.before.loop.invariant.same)
+    (λ c. runs_more c.before.before.before.before.before.loop-m.invariant c.before.before.before.before.loop-m-test.true c.before.before.put_point_line-next.ensures)
+    (λ c. c.before.loop-m.invariant.same)
     returns)

@@ -9,35 +9,35 @@ use Rattle.console_shows.specs.Points.{points_lines, points_in, points_out, poin
 use Rattle.console_shows.proofs.points.put_points.Statement.{statement}
 use Rattle.console_shows.proofs.points.put_points.Tie as tie
 
-returns : tie.Need-returns
+returns : tie.Need-put_word-requires
 unfolding points_lines text
 returns c =
     let given = c.before.before.before.before.before.before.before.before.before.args in
-    rw (eq-eqb given.t3.setup.group 0 c.before.before.before.before.before.if1.true)
-    (puts_word_room given.page.now given.at (text "no box\n") 410 (omega arith) c.before.before.put_word.ensures)
+    rw (eq-eqb given.t3.setup.group 0 c.before.before.before.before.before.if-u-eq0.true)
+    (puts_word_room given.page-1.now given.at (text "no box\n") 410 (omega arith) c.before.before.put_word.ensures)
 
-returns-2 : tie.Need-returns-2
+returns-2 : tie.Need-shape_of-page-then-place-ge-SLOTS
 unfolding text
 returns-2 c =
     let given = c.before.before.before.before.before.before.before.before.before.before.args in
-    rw (points_out given.t3 given.place c.before.before.before.before.before.before.if1.false c.before.before.before.before.before.if2.true)
-    (puts_word_room given.page.now given.at (text "no place\n") 410 (omega arith) c.before.before.put-word2.ensures)
+    rw (points_out given.t3 given.place c.before.before.before.before.before.before.if-u-eq0.false c.before.before.before.before.before.if-place-ge-SLOTS.true)
+    (puts_word_room given.page-1.now given.at (text "no place\n") 410 (omega arith) c.before.before.put_word-then-place-ge-SLOTS.ensures)
 
-returns-3 : tie.Need-returns-3
+returns-3 : tie.Need-returns-then-not-slot
 unfolding text
 returns-3 c =
     let given = c.before.before.before.before.before.before.before.before.before.before.before.before.before.args in
-    rw (points_unused given.t3 given.place c.before.before.before.before.before.before.before.before.before.if1.false (not-true (slot_at given.t3 given.place).used c.before.before.before.before.before.if3.true))
-    (puts_word_room given.page.now given.at (text "no place\n") 410 (omega arith) c.before.before.put-word3.ensures)
+    rw (points_unused given.t3 given.place c.before.before.before.before.before.before.before.before.before.if-u-eq0.false (not-true (slot_at given.t3 given.place).used c.before.before.before.before.before.if-not-slot.true))
+    (puts_word_room given.page-1.now given.at (text "no place\n") 410 (omega arith) c.before.before.put_word-then-not-slot.ensures)
 
-returns-4 : tie.Need-returns-4
+returns-4 : tie.Need-returns
 returns-4 c =
     let given = c.before.before.before.before.before.before.before.before.before.before.before.before.args in
-    rw (points_in given.t3 given.place c.before.before.before.before.before.before.before.before.if1.false c.before.before.before.before.before.before.before.if2.false (not-false (slot_at given.t3 given.place).used c.before.before.before.before.if3.false))
-    c.before.before.put-point-lines.ensures
+    rw (points_in given.t3 given.place c.before.before.before.before.before.before.before.before.if-u-eq0.false c.before.before.before.before.before.before.before.if-place-ge-SLOTS.false (not-false (slot_at given.t3 given.place).used c.before.before.before.before.if-not-slot.false))
+    c.before.before.put_point_lines.ensures
 
-pub put-points-spec : {M : Type 1} → statement M
-put-points-spec =
+pub put_points_spec : {M : Type 1} → statement M
+put_points_spec =
     tie.close
     (tie.spec
     (λ c. search rules) (λ c κs. search rules) (λ c. search rules)

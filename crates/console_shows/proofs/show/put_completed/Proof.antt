@@ -13,10 +13,10 @@ returns c =
     let number = c.before.before.before.before.before.before.before.before in
     let given = number.before.before.before.before.args in
     let kept = kept_text (text " share ") (text " share none\n") given.keep.kept in
-    puts_then given.page.now given.at (numbered (text "completed place ") given.s) kept 21 31 number.put-numbered.ensures c.before.before.put-kept.ensures
+    puts_then given.page-1.now given.at (numbered (text "completed place ") given.s) kept 21 31 number.put_numbered-next.ensures c.before.before.put_kept.ensures
 
-pub put-completed-spec : {M : Type 1} → statement M
-put-completed-spec =
+pub put_completed_spec : {M : Type 1} → statement M
+put_completed_spec =
     tie.close
     (tie.spec
     (λ c. search rules) (λ c. search rules) (λ c κs. search rules) (λ c. search rules) (λ c. search rules)

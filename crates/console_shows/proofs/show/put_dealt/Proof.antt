@@ -8,14 +8,14 @@ use Rattle.console_shows.specs.Show.{dealt_line}
 use Rattle.console_shows.proofs.show.put_dealt.Statement.{statement}
 use Rattle.console_shows.proofs.show.put_dealt.Tie as tie
 
-returns : tie.Need-returns
+returns : tie.Need-returns-then-u
 unfolding dealt_line
-returns c = let u = c.before.before.before.args.u in rw (ne_eqb u.i u.d c.if1.true) (omega arith, omega arith, refl)
+returns c = let u = c.before.before.before.args.u in rw (ne_eqb u.i u.d c.if-u.true) (omega arith, omega arith, refl)
 
-returns-2 : tie.Need-returns-2
+returns-2 : tie.Need-returns
 unfolding dealt_line text
-returns-2 c = let u = c.before.before.before.before.before.before.before.before.before.args.u in rw (eq-eqb u.i u.d c.before.before.before.before.before.before.if1.false) c.before.before.put-either.ensures
+returns-2 c = let u = c.before.before.before.before.before.before.before.before.before.args.u in rw (eq-eqb u.i u.d c.before.before.before.before.before.before.if-u.false) c.before.before.put_either.ensures
 
-pub put-dealt-spec : {M : Type 1} → statement M
-put-dealt-spec =
+pub put_dealt_spec : {M : Type 1} → statement M
+put_dealt_spec =
     tie.close (tie.spec returns (λ c. search rules) (λ c. search rules) (λ c κs. search rules) (λ c. search rules) returns-2)

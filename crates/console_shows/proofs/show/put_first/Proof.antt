@@ -10,13 +10,13 @@ returns : tie.Need-returns
 unfolding first_lines
 returns c =
     let given = c.before.before.before.before.before.before.before.before.before.before.before.before.before.args in
-    let page = given.page.now in
+    let page = given.page-1.now in
     let u = set_up_line given.u in
     let dealt = dealt_line given.u given.dealt in
     puts_then page given.at (u ++ dealt) (heard_line given.heard) 124 271
-    (puts_then page given.at u dealt 108 16 c.before.before.before.before.before.before.before.before.before.before.put-set-up.ensures c.before.before.before.before.before.before.put-dealt.ensures)
-    c.before.before.put-heard.ensures
+    (puts_then page given.at u dealt 108 16 c.before.before.before.before.before.before.before.before.before.before.put_set_up-next.ensures c.before.before.before.before.before.before.put_dealt-next.ensures)
+    c.before.before.put_heard.ensures
 
-pub put-first-spec : {M : Type 1} → statement M
-put-first-spec =
+pub put_first_spec : {M : Type 1} → statement M
+put_first_spec =
     tie.close (tie.spec (λ c κs. search rules) (λ c κs. search rules) (λ c κs. search rules) (λ c. search rules) returns)

@@ -15,7 +15,7 @@ returns c =
     let second = third.before.before.before.before.before in
     let first = second.before.before.before.before.before in
     let given = first.before.before.before.before.args in
-    let page = given.page.now in
+    let page = given.page-1.now in
     let at = given.at in
     let sends = heard_text (text "heard send") given.heard 0 in
     let echoes = heard_text (text " echo") given.heard 1 in
@@ -24,13 +24,13 @@ returns c =
     puts_then_word page at (sends ++ echoes ++ readies ++ shares) (text "\n") 270
     (puts_then page at (sends ++ echoes ++ readies) shares 201 69
     (puts_then page at (sends ++ echoes) readies 135 66
-    (puts_then page at sends echoes 70 65 first.put-tag.ensures second.put-tag2.ensures)
-    third.put-tag3.ensures)
-    fourth.put-tag4.ensures)
+    (puts_then page at sends echoes 70 65 first.put_tag-next.ensures second.put_tag-next-2.ensures)
+    third.put_tag-next-3.ensures)
+    fourth.put_tag-next-4.ensures)
     c.before.before.put_word.ensures
 
-pub put-heard-spec : {M : Type 1} → statement M
-put-heard-spec =
+pub put_heard_spec : {M : Type 1} → statement M
+put_heard_spec =
     tie.close
     (tie.spec
     (λ c. search rules) (λ c κs. search rules) (λ c. search rules) (λ c κs. search rules) (λ c. search rules)

@@ -12,12 +12,12 @@ returns : tie.Need-returns
 unfolding kept_line text
 returns c =
     let given = c.before.before.before.before.before.before.before.before.before.before.before.before.args in
-    puts_then_word given.page.now given.at (text "kept" ++ boxes_text (kept_marks given.shares)) (text "\n") 64
-    (rw c.before.before.before.before.before.before.before.before.kept-marks.ensures at c.before.before.before.before.before.before.before.put-listed.ensures)
+    puts_then_word given.page-1.now given.at (text "kept" ++ boxes_text (kept_marks given.shares)) (text "\n") 64
+    (rw c.before.before.before.before.before.before.before.before.kept_marks.ensures at c.before.before.before.before.before.before.before.put_listed-next.ensures)
     c.before.before.put_word.ensures
 
-pub put-kept-boxes-spec : {M : Type 1} → statement M
-put-kept-boxes-spec =
+pub put_kept_boxes_spec : {M : Type 1} → statement M
+put_kept_boxes_spec =
     tie.close
     (tie.spec
     (λ c. search rules) (λ c κs. search rules) (λ c κs. search rules) (λ c. search rules) (λ c κs. search rules)

@@ -11,19 +11,19 @@ returns : tie.Need-returns
 unfolding last_lines commanded_line text
 returns c =
     let given = c.before.before.before.before.before.before.before.before.before.before.before.before.before.before.before.before.before.before.before.before.before.args in
-    let page = given.page.now in
+    let page = given.page-1.now in
     let at = given.at in
     let completed = completion_line given.slots given.progress.completion in
     let commanded = commanded_line given.progress.commanded in
     let kept = kept_line given.shares in
     puts_then page at (completed ++ commanded ++ kept) (recovered_line given.recovered) 141 36
     (puts_then page at (completed ++ commanded) kept 76 65
-    (puts_then page at completed commanded 52 24 c.before.before.before.before.before.before.before.before.before.before.before.before.before.before.before.before.before.before.put-completion.ensures c.before.before.before.before.before.before.before.before.before.before.before.before.put-either.ensures)
-    c.before.before.before.before.before.before.before.before.put-kept-boxes.ensures)
-    c.before.before.put-kept.ensures
+    (puts_then page at completed commanded 52 24 c.before.before.before.before.before.before.before.before.before.before.before.before.before.before.before.before.before.before.put_completion-next.ensures c.before.before.before.before.before.before.before.before.before.before.before.before.put_either-next.ensures)
+    c.before.before.before.before.before.before.before.before.put_kept_boxes-next.ensures)
+    c.before.before.put_kept.ensures
 
-pub put-last-spec : {M : Type 1} → statement M
-put-last-spec =
+pub put_last_spec : {M : Type 1} → statement M
+put_last_spec =
     tie.close
     (tie.spec
     (λ c κs. search rules) (λ c. search rules) (λ c. search rules) (λ c κs. search rules) (λ c κs. search rules)

@@ -1,4 +1,4 @@
--- `put_set_up` puts the line of the set-up numbers. Assumes nothing.
+-- `put_set_up` puts the line of the set_up_lem numbers. Assumes nothing.
 use mathlib.Core.List.{◌++◌}
 use borrow.Author.Rules.{rules}
 use Rattle.rules.specs.Text.{text}
@@ -17,7 +17,7 @@ returns c =
     let second = third.before.before.before.before in
     let first = second.before.before.before.before.before in
     let given = first.before.before.before.before.args in
-    let page = given.page.now in
+    let page = given.page-1.now in
     let at = given.at in
     let u = given.u in
     let own = widely (text "box ") u.i in
@@ -28,14 +28,14 @@ returns c =
     (puts_then page at (own ++ group ++ sizes_text u ++ dealer) session 88 19
     (puts_then page at (own ++ group ++ sizes_text u) dealer 70 18
     (puts_then page at (own ++ group) (sizes_text u) 31 39
-    (puts_then page at own group 14 17 first.put-widely.ensures second.put-widely2.ensures)
-    third.put-sizes.ensures)
-    fourth.put-widely3.ensures)
-    fifth.put-widely4.ensures)
+    (puts_then page at own group 14 17 first.put_widely-next.ensures second.put_widely-next-2.ensures)
+    third.put_sizes-next.ensures)
+    fourth.put_widely-next-3.ensures)
+    fifth.put_widely-next-4.ensures)
     c.before.before.put_word.ensures
 
-pub put-set-up-spec : {M : Type 1} → statement M
-put-set-up-spec =
+pub put_set_up_spec : {M : Type 1} → statement M
+put_set_up_spec =
     tie.close
     (tie.spec
     (λ c. search rules) (λ c κs. search rules) (λ c. search rules) (λ c κs. search rules) (λ c κs. search rules)

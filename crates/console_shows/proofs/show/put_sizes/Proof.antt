@@ -12,15 +12,15 @@ returns : tie.Need-returns
 unfolding sizes_text text
 returns c =
     let given = c.before.before.before.before.before.before.before.before.before.before.before.before.before.before.before.before.args in
-    let page = given.page.now in
+    let page = given.page-1.now in
     let n = widely (text " n ") given.u.n in
     let t = widely (text " t ") given.u.t in
     puts_then page given.at (n ++ t) (widely (text " k ") given.u.k) 26 13
-    (puts_then page given.at n t 13 13 c.before.before.before.before.before.before.before.before.before.before.before.before.put-widely.ensures c.before.before.before.before.before.before.before.put-widely2.ensures)
-    c.before.before.put-widely3.ensures
+    (puts_then page given.at n t 13 13 c.before.before.before.before.before.before.before.before.before.before.before.before.put_widely-next.ensures c.before.before.before.before.before.before.before.put_widely-next-2.ensures)
+    c.before.before.put_widely.ensures
 
-pub put-sizes-spec : {M : Type 1} → statement M
-put-sizes-spec =
+pub put_sizes_spec : {M : Type 1} → statement M
+put_sizes_spec =
     tie.close
     (tie.spec
     (λ c. search rules) (λ c κs. search rules) (λ c. search rules) (λ c κs. search rules) (λ c. search rules)

@@ -6,7 +6,7 @@ use Rattle.console_shows.proofs.show.put_tag.Tie as tie
 
 returns : tie.Need-returns
 unfolding heard_text
-returns c = c.before.before.put-listed.ensures
+returns c = c.before.before.put_listed.ensures
 
-pub put-tag-spec : {M : Type 1} → statement M
-put-tag-spec = tie.close (tie.spec (λ c. search rules) (λ c. search rules) (λ c κs. search rules) (λ c. search rules) returns)
+pub put_tag_spec : {M : Type 1} → statement M
+put_tag_spec = tie.close (tie.spec (λ c. search rules) (λ c. search rules) (λ c κs. search rules) (λ c. search rules) returns)

@@ -5,5 +5,5 @@ use Rattle.folds.specs.Found.{found3, found6}
 use Rattle.handsums.proofs.first.sums.Statement.{statement}
 use Rattle.handsums.proofs.first.sums.Tie as tie
 
-pub sums-spec : {M : Type 1} → statement M
-sums-spec = tie.close (found3 (found6 tie.spec (search rules) (λ c κs. let passes = sym c.before.matrix-passes.ensures ∙ c.if1.true in search rules)) (search rules))
+pub sums_spec : {M : Type 1} → statement M
+sums_spec = tie.close (found3 (found6 tie.spec (search rules) (λ c κs. let passes = sym c.before.matrix_passes.ensures ∙ c.if-matrix_passes.true in search rules)) (search rules))

@@ -8,22 +8,22 @@ use Rattle.record_points.specs.Points.{considered}
 use Rattle.record_points.proofs.points.consider.Statement.{statement}
 use Rattle.record_points.proofs.points.consider.Tie as tie
 
-returns : tie.Need-returns
+returns : tie.Need-returns-then-k-all
 unfolding considered
 returns c =
     let full : c.before.before.args.k ≤ c.before.before.args.all.count = omega arith in
     rw (le-leb _ _ full)
 
-returns-2 : tie.Need-returns-2
+returns-2 : tie.Need-returns-in-Absent
 unfolding considered
-returns-2 c = rw (lt-leb _ _ c.before.before.if1.false, c.enum_told.given.1)
+returns-2 c = rw (lt-leb _ _ c.before.before.if-k-all.false, c.enum_told-1.given.1)
 
-returns-3 : tie.Need-returns-3
+returns-3 : tie.Need-returns-in-There
 unfolding considered
-returns-3 c = rw (lt-leb _ _ c.before.before.before.before.if1.false, c.before.before.kept.given.1) c.with-point.ensures
+returns-3 c = rw (lt-leb _ _ c.before.before.before.before.if-k-all.false, c.before.before.kept-1.given.1) c.with_point.ensures
 
-pub consider-spec : {M : Type 1} → statement M
-consider-spec =
+pub consider_spec : {M : Type 1} → statement M
+consider_spec =
     tie.close (found3 (tie.spec returns) (search rules)
     returns-2
     returns-3)

@@ -9,5 +9,5 @@ returns : tie.Need-returns
 unfolding points_of in_array stores
 returns c = refl
 
-pub no-points-spec : {M : Type 1} → statement M
-no-points-spec = tie.close (tie.spec returns)
+pub no_points_spec : {M : Type 1} → statement M
+no_points_spec = tie.close (tie.spec returns)

@@ -20,37 +20,37 @@ use Rattle.record_points.proofs.points.points_kept.Tie as tie
 abbrev pair_at : List Keep → ℕ → List (Said Pair)
 pair_at keeps i = kept_at i (share_at keeps i)
 
-abbrev invariant-loop : tie.invariant-loop
-invariant-loop k keeps made₀ m₀ number₀ made m number =
+abbrev invariant-loop-m : tie.invariant-loop-m
+invariant-loop-m k keeps made₀ m₀ number₀ made m number =
     (m ≤ 10) × (number ≡ m + 1) × (made ≡ points_of (take k (gather m (pair_at keeps))))
 
-abbrev decreases-loop : tie.decreases-loop
-decreases-loop k keeps made₀ m₀ number₀ made m number = 10 - m
+abbrev decreases-loop-m : tie.decreases-loop-m
+decreases-loop-m k keeps made₀ m₀ number₀ made m number = 10 - m
 
-loop-holds : tie.Need-loop-init invariant-loop decreases-loop
+loop-holds : tie.Need-loop-m-init invariant-loop-m decreases-loop-m
 loop-holds c =
-    let none = c.no-points.ensures ∙ considered_none c.before.args.k in
+    let none = c.no_points-made.ensures ∙ considered_none c.before.args.k in
     (omega arith, omega arith, rw (gather-zero (pair_at c.before.args.t1)) none)
 
-loop-again : tie.Need-loop-preserved invariant-loop decreases-loop
+loop-again : tie.Need-loop-m-preserved invariant-loop-m decreases-loop-m
 loop-again c =
-    let loop = c.before.before.before.loop in
+    let loop = c.before.before.before.loop-m in
     let a = c.before.before.before.before.before.args in (
       omega arith,
       omega arith,
       rw (gather-more (pair_at a.t1))
-          (rw (loop.invariant.2, loop.invariant.1) at c.consider.ensures ∙ considered_more a.k loop.m _ (get_or a.t1 loop.m nothing)),
+          (rw (loop.invariant.2, loop.invariant.1) at c.consider-made.ensures ∙ considered_more a.k loop.m _ (get_or a.t1 loop.m nothing)),
     )
 
-returns : tie.Need-returns invariant-loop decreases-loop
+returns : tie.Need-returns invariant-loop-m decreases-loop-m
 unfolding share_points
 returns c =
-    let all : c.before.loop.m ≡ 10 = omega arith in
-    rw all at c.before.loop.invariant.2
+    let all : c.before.loop-m.m ≡ 10 = omega arith in
+    rw all at c.before.loop-m.invariant.2
 
-pub points-kept-spec : {M : Type 1} → statement M
-points-kept-spec =
+pub points_kept_spec : {M : Type 1} → statement M
+points_kept_spec =
     tie.close
-    (found6 (tie.spec invariant-loop decreases-loop (λ c κs. search rules) loop-holds) (search rules)
+    (found6 (tie.spec invariant-loop-m decreases-loop-m (λ c κs. search rules) loop-holds) (search rules)
     loop-again
     returns)

@@ -2,5 +2,5 @@
 use Rattle.record_points.proofs.points.side_of.Statement.{statement}
 use Rattle.record_points.proofs.points.side_of.Tie as tie
 
-pub side-of-spec : {M : Type 1} → statement M
-side-of-spec = tie.close (tie.spec (λ c. rw c.before.before.if1.true) (λ c. rw c.before.before.if1.false))
+pub side_of_spec : {M : Type 1} → statement M
+side_of_spec = tie.close (tie.spec (λ c. rw c.before.before.if-row.true) (λ c. rw c.before.before.if-row.false))

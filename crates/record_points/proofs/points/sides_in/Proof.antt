@@ -10,21 +10,21 @@ use Rattle.record_points.specs.Points.{side_kept}
 use Rattle.record_points.proofs.points.sides_in.Statement.{statement}
 use Rattle.record_points.proofs.points.sides_in.Tie as tie
 
-abbrev invariant-loop : tie.invariant-loop
-invariant-loop row places made₀ m₀ made m = Filling (λ i. side_kept row (get_or places i silent)) made₀ 10 m made
+abbrev invariant-loop-m : tie.invariant-loop-m
+invariant-loop-m row places made₀ m₀ made m = Filling (λ i. side_kept row (get_or places i silent)) made₀ 10 m made
 
-abbrev decreases-loop : tie.decreases-loop
-decreases-loop row places made₀ m₀ made m = 10 - m
+abbrev decreases-loop-m : tie.decreases-loop-m
+decreases-loop-m row places made₀ m₀ made m = 10 - m
 
-returns : tie.Need-returns invariant-loop decreases-loop
+returns : tie.Need-returns invariant-loop-m decreases-loop-m
 returns c =
     let a = c.before.before.args in
     let len : length a.t1 ≡ 10 = search rules in
-    filling_map (side_kept a.row) a.t1 silent c.before.loop.invariant c.loop-test.false refl len
+    filling_map (side_kept a.row) a.t1 silent c.before.loop-m.invariant c.loop-m-test.false refl len
 
-pub sides-in-spec : {M : Type 1} → statement M
-sides-in-spec =
+pub sides_in_spec : {M : Type 1} → statement M
+sides_in_spec =
     tie.close
-    (found7 (tie.spec invariant-loop decreases-loop (λ c. filling_none)) (search rules)
-    (λ c. filling_more c.before.before.before.loop.invariant c.before.before.loop-test.true c.side-in.ensures)
+    (found7 (tie.spec invariant-loop-m decreases-loop-m (λ c. filling_none)) (search rules)
+    (λ c. filling_more c.before.before.before.loop-m.invariant c.before.before.loop-m-test.true c.side_in-keep.ensures)
     returns)

@@ -10,8 +10,8 @@ returns : tie.Need-returns
 unfolding with_point
 returns c = refl
 
-pub with-point-spec : {M : Type 1} → statement M
-with-point-spec =
+pub with_point_spec : {M : Type 1} → statement M
+with_point_spec =
     tie.close
     (found7 tie.spec (search rules)
     returns)

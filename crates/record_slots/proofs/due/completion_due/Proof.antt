@@ -10,20 +10,20 @@ use Rattle.record_reading.specs.Slots.{count_marks}
 use Rattle.record_slots.proofs.due.completion_due.Statement.{statement}
 use Rattle.record_slots.proofs.due.completion_due.Tie as tie
 
-by-ready : tie.Need-returns-2
+by-ready : tie.Need-returns-in-ByReady
 unfolding count_r count_marks
 by-ready c =
     let a = c.before.before.before.before.args in
-    ap (λ n. eqb n (a.u.k + a.u.t)) c.before.count-marks.ensures
-    ∙ sym (ap (λ s. completion_due a.u s a.slot) c.before.before.enum-told2.given.1)
+    ap (λ n. eqb n (a.u.k + a.u.t)) c.before.count_marks.ensures
+    ∙ sym (ap (λ s. completion_due a.u s a.slot) c.before.before.enum_told-in-ByReady-1.given.1)
 
-pub completion-due-spec : {M : Type 1} → statement M
-completion-due-spec =
+pub completion_due_spec : {M : Type 1} → statement M
+completion_due_spec =
     tie.close
     (tie.spec
     (λ c. search rules)
     (λ c. search rules)
     (λ c κs. search rules)
     (λ c. let r = c.before.before.before.before.requires in omega (arith, r.high, r.faults))
-    (λ c. rw c.enum_told.given.1)
+    (λ c. rw c.enum_told-1.given.1)
     by-ready)

@@ -27,32 +27,32 @@ module _ (u : SetUp) (slot : Slot) {side : Side} {e r E : ℕ} (he : e ≡ count
   unfolding count_e count_r count_marks
   ready-due is = rw (is, he, hr, hE)
 
-by-echo : tie.Need-returns
+by-echo : tie.Need-returns-then-echoes-quorum
 by-echo c =
     let counted = c.before.before.before.before in
     let a = counted.before.before.before.args in
-    sym (echo-due a.u a.slot counted.before.before.count-marks.ensures counted.before.count-marks2.ensures counted.echo-quorum.ensures c.before.before.enum_told.given.1 ∙ (rw (eq-eqb _ _ c.before.if1.true)))
+    sym (echo-due a.u a.slot counted.before.before.count_marks-echoes.ensures counted.before.count_marks-readies.ensures counted.echo_quorum-quorum.ensures c.before.before.enum_told-1.given.1 ∙ (rw (eq-eqb _ _ c.before.if-echoes-quorum.true)))
 
-echo-other : tie.Need-returns-2
+echo-other : tie.Need-returns-else-echoes-quorum
 echo-other c =
     let counted = c.before.before.before in
     let a = counted.before.before.before.args in
-    sym (echo-due a.u a.slot counted.before.before.count-marks.ensures counted.before.count-marks2.ensures counted.echo-quorum.ensures c.before.enum_told.given.1 ∙ (rw (ne_eqb _ _ c.if1.false)))
+    sym (echo-due a.u a.slot counted.before.before.count_marks-echoes.ensures counted.before.count_marks-readies.ensures counted.echo_quorum-quorum.ensures c.before.enum_told-1.given.1 ∙ (rw (ne_eqb _ _ c.if-echoes-quorum.false)))
 
-by-ready : tie.Need-returns-3
+by-ready : tie.Need-returns-then-readies-u
 by-ready c =
     let counted = c.before.before.before.before in
     let a = counted.before.before.before.args in
-    sym (ready-due a.u a.slot counted.before.before.count-marks.ensures counted.before.count-marks2.ensures counted.echo-quorum.ensures c.before.before.enum-told2.given.1 ∙ (rw (eq-eqb _ _ c.if2.true)))
+    sym (ready-due a.u a.slot counted.before.before.count_marks-echoes.ensures counted.before.count_marks-readies.ensures counted.echo_quorum-quorum.ensures c.before.before.enum_told-in-ByReady-1.given.1 ∙ (rw (eq-eqb _ _ c.if-readies-u.true)))
 
-ready-other : tie.Need-returns-4
+ready-other : tie.Need-returns-else-readies-u
 ready-other c =
     let counted = c.before.before.before.before in
     let a = counted.before.before.before.args in
-    sym (ready-due a.u a.slot counted.before.before.count-marks.ensures counted.before.count-marks2.ensures counted.echo-quorum.ensures c.before.before.enum-told2.given.1 ∙ (rw (ne_eqb _ _ c.if2.false)))
+    sym (ready-due a.u a.slot counted.before.before.count_marks-echoes.ensures counted.before.count_marks-readies.ensures counted.echo_quorum-quorum.ensures c.before.before.enum_told-in-ByReady-1.given.1 ∙ (rw (ne_eqb _ _ c.if-readies-u.false)))
 
-pub ready-due-spec : {M : Type 1} → statement M
-ready-due-spec =
+pub ready_due_spec : {M : Type 1} → statement M
+ready_due_spec =
     tie.close
     (tie.spec
     (λ c κs. search rules)

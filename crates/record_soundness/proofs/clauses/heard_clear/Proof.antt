@@ -18,30 +18,30 @@ use Rattle.record_soundness.proofs.clauses.heard_clear.Tie as tie
 abbrev silentFor : List Marks → ℕ → ℕ → Bool
 silentFor heard m t = not (marked (get_or heard t no_marks) m)
 
-abbrev invariant-loop : tie.invariant-loop
-invariant-loop m heard t₀ t = all_below t (silentFor heard m) ≡ true
+abbrev invariant-loop-t : tie.invariant-loop-t
+invariant-loop-t m heard t₀ t = all_below t (silentFor heard m) ≡ true
 
-abbrev decreases-loop : tie.decreases-loop
-decreases-loop m heard t₀ t = 4 - t
+abbrev decreases-loop-t : tie.decreases-loop-t
+decreases-loop-t m heard t₀ t = 4 - t
 
-returns : tie.Need-returns invariant-loop decreases-loop
+returns : tie.Need-returns-then-marks-m invariant-loop-t decreases-loop-t
 unfolding heard_clear
-returns c = all_fails _ _ _ c.before.before.before.loop-test.true (ap not c.if1.true)
+returns c = all_fails _ _ _ c.before.before.before.loop-t-test.true (ap not c.if-marks-m.true)
 
-loop-again : tie.Need-loop-preserved invariant-loop decreases-loop
+loop-again : tie.Need-loop-t-preserved invariant-loop-t decreases-loop-t
 loop-again c =
     let head = c.before.before.before.before in
     let a = head.before.args in
-    all_below_more (silentFor a.t1 a.m) head.loop.t head.loop.invariant (ap not c.if1.false)
+    all_below_more (silentFor a.t1 a.m) head.loop-t.t head.loop-t.invariant (ap not c.if-marks-m.false)
 
-returns-2 : tie.Need-returns-2 invariant-loop decreases-loop
+returns-2 : tie.Need-returns invariant-loop-t decreases-loop-t
 unfolding heard_clear
-returns-2 c = all_passed _ _ _ c.loop-test.false c.before.loop.invariant
+returns-2 c = all_passed _ _ _ c.loop-t-test.false c.before.loop-t.invariant
 
-pub heard-clear-spec : {M : Type 1} → statement M
-heard-clear-spec =
+pub heard_clear_spec : {M : Type 1} → statement M
+heard_clear_spec =
     tie.close
-    (found3 (tie.spec invariant-loop decreases-loop (λ c. all_below-zero _)) (search rules)
+    (found3 (tie.spec invariant-loop-t decreases-loop-t (λ c. all_below-zero _)) (search rules)
     returns
     (λ c. search rules)
     (λ c. search rules)

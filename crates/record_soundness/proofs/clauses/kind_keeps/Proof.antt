@@ -31,58 +31,58 @@ tested : (marks : List Marks) (heard : Marks) (m n : ℕ) → n ≡ marked_under
 unfolding marked_under
 tested marks heard m n e = rw (any_counted (mark_in marks m) 20, e)
 
-abbrev invariant-loop : tie.invariant-loop
-invariant-loop marks heard m₀ m = all_below m (passes marks heard) ≡ true
+abbrev invariant-loop-m : tie.invariant-loop-m
+invariant-loop-m marks heard m₀ m = all_below m (passes marks heard) ≡ true
 
-abbrev decreases-loop : tie.decreases-loop
-decreases-loop marks heard m₀ m = 10 - m
+abbrev decreases-loop-m : tie.decreases-loop-m
+decreases-loop-m marks heard m₀ m = 10 - m
 
-returns : tie.Need-returns invariant-loop decreases-loop
+returns : tie.Need-returns-then-n-gt1 invariant-loop-m decreases-loop-m
 unfolding kind_keeps
 returns c =
     let turn = c.before.before in
     let a = turn.before.before.args in
-    let m = turn.before.loop.m in
-    let n = c.before.marked-under.result in
-    all_fails (passes a.marks a.t2) 10 m turn.loop-test.true
-    (sym (tested a.marks a.t2 m n c.before.marked-under.ensures) ∙ rw (lt-leb n 1 c.if1.true))
+    let m = turn.before.loop-m.m in
+    let n = c.before.marked_under-n.result in
+    all_fails (passes a.marks a.t2) 10 m turn.loop-m-test.true
+    (sym (tested a.marks a.t2 m n c.before.marked_under-n.ensures) ∙ rw (lt-leb n 1 c.if-n-gt1.true))
 
-returns-2 : tie.Need-returns-2 invariant-loop decreases-loop
+returns-2 : tie.Need-returns-then-not-heard-m invariant-loop-m decreases-loop-m
 unfolding kind_keeps
 returns-2 c =
     let counts = c.before.before.before.before in
     let turn = counts.before in
     let a = turn.before.before.args in
-    let m = turn.before.loop.m in
-    let n = counts.marked-under.result in
-    let unheard : marked a.t2 m ≡ false = not-true _ c.if3.true in
-    all_fails (passes a.marks a.t2) 10 m turn.loop-test.true
-    (sym (tested a.marks a.t2 m n counts.marked-under.ensures) ∙ rw (c.before.before.if2.true, unheard))
+    let m = turn.before.loop-m.m in
+    let n = counts.marked_under-n.result in
+    let unheard : marked a.t2 m ≡ false = not-true _ c.if-not-heard-m.true in
+    all_fails (passes a.marks a.t2) 10 m turn.loop-m-test.true
+    (sym (tested a.marks a.t2 m n counts.marked_under-n.ensures) ∙ rw (c.before.before.if-n-eq1.true, unheard))
 
-loop-again : tie.Need-loop-preserved invariant-loop decreases-loop
+loop-again : tie.Need-loop-m-preserved invariant-loop-m decreases-loop-m
 loop-again c =
     let head = c.before.before.before.before in
     let a = head.before.args in
-    let m = head.loop.m in
-    let n = c.before.before.marked-under.result in
+    let m = head.loop-m.m in
+    let n = c.before.before.marked_under-n.result in
     let kept : counted n (marked a.t2 m) ≡ true =
     ⊎_elim
     (λ w. let heard : marked a.t2 m ≡ true = not-false _ w.2.left in rw (w.0.taken, heard))
     (λ w. let none : n ≡ 0 = omega arith in rw none)
-    c.if2.branch in
-    all_below_more (passes a.marks a.t2) m head.loop.invariant
-    (sym (tested a.marks a.t2 m n c.before.before.marked-under.ensures) ∙ kept)
+    c.if-n-eq1.branch in
+    all_below_more (passes a.marks a.t2) m head.loop-m.invariant
+    (sym (tested a.marks a.t2 m n c.before.before.marked_under-n.ensures) ∙ kept)
 
-returns-3 : tie.Need-returns-3 invariant-loop decreases-loop
+returns-3 : tie.Need-returns invariant-loop-m decreases-loop-m
 unfolding kind_keeps
-returns-3 c = all_passed _ _ _ c.loop-test.false c.before.loop.invariant
+returns-3 c = all_passed _ _ _ c.loop-m-test.false c.before.loop-m.invariant
 
-pub kind-keeps-spec : {M : Type 1} → statement M
-kind-keeps-spec =
+pub kind_keeps_spec : {M : Type 1} → statement M
+kind_keeps_spec =
     tie.close
     (tie.spec
-    invariant-loop
-    decreases-loop
+    invariant-loop-m
+    decreases-loop-m
     (λ c. all_below-zero _)
     (λ c κs. search rules)
     returns

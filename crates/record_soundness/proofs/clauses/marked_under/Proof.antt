@@ -11,31 +11,31 @@ use Rattle.record_soundness.specs.Clauses.{mark_in, marked_under}
 use Rattle.record_soundness.proofs.clauses.marked_under.Statement.{statement}
 use Rattle.record_soundness.proofs.clauses.marked_under.Tie as tie
 
-abbrev invariant-loop : tie.invariant-loop
-invariant-loop m marks n₀ s₀ n s = Counted (mark_in marks m) 20 s n
+abbrev invariant-loop-s : tie.invariant-loop-s
+invariant-loop-s m marks n₀ s₀ n s = Counted (mark_in marks m) 20 s n
 
-abbrev decreases-loop : tie.decreases-loop
-decreases-loop m marks n₀ s₀ n s = 20 - s
+abbrev decreases-loop-s : tie.decreases-loop-s
+decreases-loop-s m marks n₀ s₀ n s = 20 - s
 
-add-n : tie.Need-overflow-add-n invariant-loop decreases-loop
+add-n : tie.Need-overflow_add-n invariant-loop-s decreases-loop-s
 add-n c =
     let head = c.before.before.before.before in
-    omega (arith, count_below_le (mark_in head.before.args.t1 head.before.args.m) head.loop.s)
+    omega (arith, count_below_le (mark_in head.before.args.t1 head.before.args.m) head.loop-s.s)
 
-loop-again : tie.Need-loop-preserved invariant-loop decreases-loop
+loop-again : tie.Need-loop-s-preserved invariant-loop-s decreases-loop-s
 loop-again c =
     let turn = c.before.before.before in
-    let next = counted_more _ 20 _ turn.loop-test.true turn.before.loop.invariant in
-    ⊎_elim (λ w. next.0 w.0.taken w.1) (λ w. next.1 w.0.left w.1) c.if1.branch
+    let next = counted_more _ 20 _ turn.loop-s-test.true turn.before.loop-s.invariant in
+    ⊎_elim (λ w. next.0 w.0.taken w.1) (λ w. next.1 w.0.left w.1) c.if-here-m.branch
 
-returns : tie.Need-returns invariant-loop decreases-loop
+returns : tie.Need-returns invariant-loop-s decreases-loop-s
 unfolding marked_under
-returns c = counted_all _ 20 _ c.loop-test.false c.before.loop.invariant
+returns c = counted_all _ 20 _ c.loop-s-test.false c.before.loop-s.invariant
 
-pub marked-under-spec : {M : Type 1} → statement M
-marked-under-spec =
+pub marked_under_spec : {M : Type 1} → statement M
+marked_under_spec =
     tie.close
-    (found3 (tie.spec invariant-loop decreases-loop (λ c. counted_start _ 20)) (search rules)
+    (found3 (tie.spec invariant-loop-s decreases-loop-s (λ c. counted_start _ 20)) (search rules)
     add-n
     (λ c. search rules)
     (λ c. search rules)

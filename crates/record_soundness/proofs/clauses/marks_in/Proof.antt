@@ -12,25 +12,25 @@ use Rattle.record_soundness.specs.Clauses.{marks_for, marks_in}
 use Rattle.record_soundness.proofs.clauses.marks_in.Statement.{statement}
 use Rattle.record_soundness.proofs.clauses.marks_in.Tie as tie
 
-abbrev invariant-loop : tie.invariant-loop
-invariant-loop tag slots made₀ s₀ made s = Filling (λ i. marks_for tag (slot_in slots i)) made₀ 20 s made
+abbrev invariant-loop-s : tie.invariant-loop-s
+invariant-loop-s tag slots made₀ s₀ made s = Filling (λ i. marks_for tag (slot_in slots i)) made₀ 20 s made
 
-abbrev decreases-loop : tie.decreases-loop
-decreases-loop tag slots made₀ s₀ made s = 20 - s
+abbrev decreases-loop-s : tie.decreases-loop-s
+decreases-loop-s tag slots made₀ s₀ made s = 20 - s
 
-loop-again : tie.Need-loop-preserved invariant-loop decreases-loop
-loop-again c = filling_more c.before.before.before.loop.invariant c.before.before.loop-test.true c.marks-of.ensures
+loop-again : tie.Need-loop-s-preserved invariant-loop-s decreases-loop-s
+loop-again c = filling_more c.before.before.before.loop-s.invariant c.before.before.loop-s-test.true c.marks_of-marks.ensures
 
-returns : tie.Need-returns invariant-loop decreases-loop
+returns : tie.Need-returns invariant-loop-s decreases-loop-s
 unfolding marks_in
 returns c =
     let slots = c.before.before.args.t1 in
     let len : length slots ≡ 20 = search rules in
-    filling_map (marks_for c.before.before.args.tag) slots no_slot c.before.loop.invariant c.loop-test.false refl len
+    filling_map (marks_for c.before.before.args.tag) slots no_slot c.before.loop-s.invariant c.loop-s-test.false refl len
 
-pub marks-in-spec : {M : Type 1} → statement M
-marks-in-spec =
+pub marks_in_spec : {M : Type 1} → statement M
+marks_in_spec =
     tie.close
-    (found7 (tie.spec invariant-loop decreases-loop (λ c. filling_none)) (search rules)
+    (found7 (tie.spec invariant-loop-s decreases-loop-s (λ c. filling_none)) (search rules)
     loop-again
     returns)

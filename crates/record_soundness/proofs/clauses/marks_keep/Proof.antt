@@ -39,34 +39,34 @@ module _ (f : Slot → Marks) (none : f no_slot ≡ no_marks) (slots : List Slot
       (fun_ext (λ m. ap (λ (p : ℕ → Bool). leb (count_below 20 p) 1 and implies (any_below 20 p) (marked heard m)) (read m)))
 
 -- what the first call tests
-echo : (c : tie.After-kind-keeps)
+echo : (c : tie.After-kind_keeps)
     → let x = c.before.before.before.before.args.t1 in
-    clause (λ slot. slot.echoed) x.slots (get_or x.heard 1 no_marks) ≡ c.kind-keeps.result
+    clause (λ slot. slot.echoed) x.slots-1 (get_or x.heard 1 no_marks) ≡ c.kind_keeps.result
 unfolding marks_in
 echo c =
     let x = c.before.before.before.before.args.t1 in
     let heard = get_or x.heard 1 no_marks in
     sym
-    (c.kind-keeps.ensures
-    ∙ ap (λ (marks : List Marks). kind_keeps marks heard) c.before.before.marks-in.ensures
-    ∙ kind (λ slot. slot.echoed) refl x.slots heard)
+    (c.kind_keeps.ensures
+    ∙ ap (λ (marks : List Marks). kind_keeps marks heard) c.before.before.marks_in-echoed.ensures
+    ∙ kind (λ slot. slot.echoed) refl x.slots-1 heard)
 
-returns : tie.Need-returns
+returns : tie.Need-returns-then-not-kind_keeps
 unfolding marks_keep
-returns c = rw (echo c.before ∙ not-true _ c.if1.true)
+returns c = rw (echo c.before ∙ not-true _ c.if-not-kind_keeps.true)
 
-returns-2 : tie.Need-returns-2
+returns-2 : tie.Need-returns
 unfolding marks_keep marks_in
 returns-2 c =
     let x = c.before.before.before.before.before.before.before.before.args.t1 in
     let heard = get_or x.heard 2 no_marks in
-    rw (echo c.before.before.before.before ∙ not-false _ c.before.before.before.if1.false)
-    (c.kind-keeps2.ensures
-    ∙ ap (λ (marks : List Marks). kind_keeps marks heard) c.before.before.marks-in2.ensures
-    ∙ kind (λ slot. slot.readied) refl x.slots heard)
+    rw (echo c.before.before.before.before ∙ not-false _ c.before.before.before.if-not-kind_keeps.false)
+    (c.kind_keeps-2.ensures
+    ∙ ap (λ (marks : List Marks). kind_keeps marks heard) c.before.before.marks_in-readied.ensures
+    ∙ kind (λ slot. slot.readied) refl x.slots-1 heard)
 
-pub marks-keep-spec : {M : Type 1} → statement M
-marks-keep-spec =
+pub marks_keep_spec : {M : Type 1} → statement M
+marks_keep_spec =
     tie.close
     (found3 (found3 tie.spec (search rules) returns) (search rules)
     returns-2)

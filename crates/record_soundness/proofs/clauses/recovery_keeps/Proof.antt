@@ -16,29 +16,29 @@ use Rattle.record_soundness.specs.Clauses.{shares_keep, recovery_passes}
 use Rattle.record_soundness.proofs.clauses.recovery_keeps.Statement.{statement}
 use Rattle.record_soundness.proofs.clauses.recovery_keeps.Tie as tie
 
-abbrev counted : tie.Joined1 → tie.After-count-shares
+abbrev counted : tie.Joined-not-progress → tie.After-count_shares-n
 counted c = c.before.before.before
 
-abbrev start : tie.Joined1 → tie.Start
+abbrev start : tie.Joined-not-progress → tie.Start
 start c = (counted c).before.before.before.before.before.before
 
-abbrev given : tie.Joined1 → Record
+abbrev given : tie.Joined-not-progress → Record
 given c = (start c).args.t2
 
 -- the first test: a command needs completion
-done : (c : tie.Joined1) → c.if1.if2 ≡ implies (given c).progress.commanded (is_done (given c).progress.completion)
+done : (c : tie.Joined-not-progress) → c.if-not-progress.if2 ≡ implies (given c).progress-1.commanded (is_done (given c).progress-1.completion)
 done c =
-    let commanded = (given c).progress.commanded in
-    let needed : Bool → Bool = λ b. implies b (is_done (given c).progress.completion) in
+    let commanded = (given c).progress-1.commanded in
+    let needed : Bool → Bool = λ b. implies b (is_done (given c).progress-1.completion) in
     ⊎_elim
     (λ w. w.1 ∙ w.0.taken ∙ sym (ap needed (not-true commanded w.0.taken)))
     (λ w. w.2 ∙ w.1.ensures ∙ sym (ap needed (not-false commanded w.0.left)))
-    c.if1.branch
+    c.if-not-progress.branch
 
 -- all but the last test
-most : (c : tie.Joined4)
+most : (c : tie.Joined-n-u)
     → let first = c.before.before.before in
-    recovery_passes (start first).args.q (given first) ≡ (c.if4.if5 and kept_below (start first).args.q (given first).recovered.auto)
+    recovery_passes (start first).args.q (given first) ≡ (c.if-n-u.if5 and kept_below (start first).args.q (given first).recovered-1.auto)
 unfolding recovery_passes
 most c =
     let third = c.before in
@@ -47,23 +47,23 @@ most c =
     let q = (start first).args.q in
     let x = given first in
     let k = x.setup.k in
-    let count = (counted first).count-shares in
-    let below = kept_below q x.recovered.kept in
-    let there = same (is_there x.recovered.kept) (eqb (shares_kept x.shares) k) and below in
-    let few = leb (shares_kept x.shares) k and there in
-    let shares = shares_keep q x.progress.commanded (get_or x.heard 3 no_marks) x.shares in
+    let count = (counted first).count_shares-n in
+    let below = kept_below q x.recovered-1.kept in
+    let there = same (is_there x.recovered-1.kept) (eqb (shares_kept x.shares-1) k) and below in
+    let few = leb (shares_kept x.shares-1) k and there in
+    let shares = shares_keep q x.progress-1.commanded (get_or x.heard-1 3 no_marks) x.shares-1 in
     let s1 = ap (λ (b : Bool). b and shares and few) (sym (done first)) in
-    let s2 = chain few s1 (⊎_map (λ w. (w.0.taken, w.2 ∙ w.1.ensures)) (λ w. (w.0.left, w.1)) second.if2.branch) in
-    let s3 = chain there s2 (⊎_map (λ w. (w.0.taken, w.2 ∙ ap (λ (n : ℕ). leb n k) count.ensures)) (λ w. (w.0.left, w.1)) third.if3.branch) in
+    let s2 = chain few s1 (⊎_map (λ w. (w.0.taken, w.2 ∙ w.1.ensures)) (λ w. (w.0.left, w.1)) second.if-is_done.branch) in
+    let s3 = chain there s2 (⊎_map (λ w. (w.0.taken, w.2 ∙ ap (λ (n : ℕ). leb n k) count.ensures)) (λ w. (w.0.left, w.1)) third.if-shares_keep.branch) in
     chain below s3
     (⊎_map
-    (λ w. (w.0.taken, w.2 ∙ beq_same first.before.before.is-there.result (eqb count.result k) ∙ ap₂ same first.before.before.is-there.ensures (ap (λ (n : ℕ). eqb n k) count.ensures)))
+    (λ w. (w.0.taken, w.2 ∙ beq_same first.before.before.is_there-given.result (eqb count.result k) ∙ ap₂ same first.before.before.is_there-given.ensures (ap (λ (n : ℕ). eqb n k) count.ensures)))
     (λ w. (w.0.left, w.1))
-    c.if4.branch)
+    c.if-n-u.branch)
 
-pub recovery-keeps-spec : {M : Type 1} → statement M
-recovery-keeps-spec =
+pub recovery_keeps_spec : {M : Type 1} → statement M
+recovery_keeps_spec =
     tie.close
     (found6 tie.spec (search rules)
-    (λ c. chain_then (most c.before.before) c.before.if5.true c.kept-below.ensures)
-    (λ c. chain_else _ (most c.before) c.if5.false))
+    (λ c. chain_then (most c.before.before) c.before.if-given-n.true c.kept_below.ensures)
+    (λ c. chain_else _ (most c.before) c.if-given-n.false))

@@ -14,38 +14,38 @@ use Rattle.record_soundness.proofs.clauses.sender_zero.Statement.{statement}
 use Rattle.record_soundness.proofs.clauses.sender_zero.Tie as tie
 
 -- tag t + 1 is heard at index t
-tags : (x : Record) (m : ℕ) → all_below 4 (λ t. not (heard_for x (t + 1) m)) ≡ heard_clear x.heard m
+tags : (x : Record) (m : ℕ) → all_below 4 (λ t. not (heard_for x (t + 1) m)) ≡ heard_clear x.heard-1 m
 unfolding heard_clear all_below
 tags x m = refl
 
-returns : tie.Need-returns
+returns : tie.Need-returns-then-not-slots_clear
 unfolding sender_zero every_slot
-returns c = rw (sym c.before.slots-clear.ensures ∙ not-true _ c.if1.true)
+returns c = rw (sym c.before.slots_clear.ensures ∙ not-true _ c.if-not-slots_clear.true)
 
-returns-2 : tie.Need-returns-2
+returns-2 : tie.Need-returns-then-not-heard_clear
 unfolding sender_zero every_slot
 returns-2 c =
     let first = c.before.before.before in
     let a = first.before.before.before.args in
     rw (
-      sym first.before.slots-clear.ensures ∙ not-false _ first.if1.false,
-      tags a.t1 a.m ∙ sym c.before.heard-clear.ensures ∙ not-true _ c.if2.true,
+      sym first.before.slots_clear.ensures ∙ not-false _ first.if-not-slots_clear.false,
+      tags a.t1 a.m ∙ sym c.before.heard_clear.ensures ∙ not-true _ c.if-not-heard_clear.true,
     )
 
-returns-3 : tie.Need-returns-3
+returns-3 : tie.Need-returns
 unfolding sender_zero every_slot
 returns-3 c =
     let second = c.before.before in
     let first = second.before.before.before in
     let a = first.before.before.before.args in
     rw (
-      sym first.before.slots-clear.ensures ∙ not-false _ first.if1.false,
-      tags a.t1 a.m ∙ sym second.before.heard-clear.ensures ∙ not-false _ second.if2.false,
+      sym first.before.slots_clear.ensures ∙ not-false _ first.if-not-slots_clear.false,
+      tags a.t1 a.m ∙ sym second.before.heard_clear.ensures ∙ not-false _ second.if-not-heard_clear.false,
     )
-    (ap not c.is-there.ensures)
+    (ap not c.is_there.ensures)
 
-pub sender-zero-spec : {M : Type 1} → statement M
-sender-zero-spec =
+pub sender_zero_spec : {M : Type 1} → statement M
+sender_zero_spec =
     tie.close
     (found3 (tie.spec (λ c κs. search rules) returns (λ c κs. search rules) returns-2) (search rules)
     returns-3)

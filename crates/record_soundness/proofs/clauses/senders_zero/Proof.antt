@@ -21,28 +21,28 @@ use Rattle.record_soundness.proofs.clauses.senders_zero.Tie as tie
 abbrev passes : Record → ℕ → Bool
 passes x m = ltb m x.setup.n or sender_zero x m
 
-abbrev invariant-loop : tie.invariant-loop
-invariant-loop x u number₀ m₀ number m = (number ≡ m) × (all_below m (passes x) ≡ true)
+abbrev invariant-loop-m : tie.invariant-loop-m
+invariant-loop-m x u number₀ m₀ number m = (number ≡ m) × (all_below m (passes x) ≡ true)
 
-abbrev decreases-loop : tie.decreases-loop
-decreases-loop x u number₀ m₀ number m = 10 - m
+abbrev decreases-loop-m : tie.decreases-loop-m
+decreases-loop-m x u number₀ m₀ number m = 10 - m
 
-returns : tie.Need-returns invariant-loop decreases-loop
+returns : tie.Need-returns-then-not-sender_zero invariant-loop-m decreases-loop-m
 unfolding senders_clear
 returns c =
     let turn = c.before.before.before.before in
     let x = turn.before.before.before.args.x in
-    let m = turn.before.loop.m in
+    let m = turn.before.loop-m.m in
     let above : x.setup.n ≤ m = omega arith in
-    all_fails (passes x) 10 m turn.loop-test.true (rw (le-ltb m x.setup.n above) (failed c.before.sender-zero.ensures c.if2.true))
+    all_fails (passes x) 10 m turn.loop-m-test.true (rw (le-ltb m x.setup.n above) (failed c.before.sender_zero.ensures c.if-not-sender_zero.true))
 
-loop-again : tie.Need-loop-preserved invariant-loop decreases-loop
+loop-again : tie.Need-loop-m-preserved invariant-loop-m decreases-loop-m
 loop-again c =
     let head = c.before.before.before in
     let x = head.before.before.args.x in
-    let m = head.loop.m in (
+    let m = head.loop-m.m in (
       omega arith,
-      all_below_more (passes x) m head.loop.invariant.1
+      all_below_more (passes x) m head.loop-m.invariant.1
           (⊎_elim
           (λ w.
           let above : x.setup.n ≤ m = omega (arith, w.0.taken) in
@@ -50,16 +50,16 @@ loop-again c =
           (λ w.
           let below : m < x.setup.n = omega (arith, w.left) in
           rw (lt-ltb m x.setup.n below))
-          c.if1.branch),
+          c.if-u-number.branch),
     )
 
-returns-2 : tie.Need-returns-2 invariant-loop decreases-loop
+returns-2 : tie.Need-returns invariant-loop-m decreases-loop-m
 unfolding senders_clear
-returns-2 c = all_passed _ _ _ c.loop-test.false c.before.loop.invariant.1
+returns-2 c = all_passed _ _ _ c.loop-m-test.false c.before.loop-m.invariant.1
 
-pub senders-zero-spec : {M : Type 1} → statement M
-senders-zero-spec =
+pub senders_zero_spec : {M : Type 1} → statement M
+senders_zero_spec =
     tie.close
-    (found3 (tie.spec invariant-loop decreases-loop (λ c. (omega arith, all_below-zero _)) (λ c κs. search rules) returns) (search rules)
+    (found3 (tie.spec invariant-loop-m decreases-loop-m (λ c. (omega arith, all_below-zero _)) (λ c κs. search rules) returns) (search rules)
     loop-again
     returns-2)

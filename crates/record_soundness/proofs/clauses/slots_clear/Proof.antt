@@ -14,27 +14,27 @@ use Rattle.record_soundness.specs.Clauses.{slot_clear}
 use Rattle.record_soundness.proofs.clauses.slots_clear.Statement.{statement}
 use Rattle.record_soundness.proofs.clauses.slots_clear.Tie as tie
 
-abbrev invariant-loop : tie.invariant-loop
-invariant-loop m slots s₀ s = all_below s (λ i. slot_clear m (slot_in slots i)) ≡ true
+abbrev invariant-loop-s : tie.invariant-loop-s
+invariant-loop-s m slots s₀ s = all_below s (λ i. slot_clear m (slot_in slots i)) ≡ true
 
-abbrev decreases-loop : tie.decreases-loop
-decreases-loop m slots s₀ s = 20 - s
+abbrev decreases-loop-s : tie.decreases-loop-s
+decreases-loop-s m slots s₀ s = 20 - s
 
-returns : tie.Need-returns invariant-loop decreases-loop
+returns : tie.Need-returns-then-not-slot_clear invariant-loop-s decreases-loop-s
 unfolding every_slot
-returns c = all_fails _ _ _ c.before.before.before.loop-test.true (failed c.before.slot-clear.ensures c.if1.true)
+returns c = all_fails _ _ _ c.before.before.before.loop-s-test.true (failed c.before.slot_clear.ensures c.if-not-slot_clear.true)
 
-loop-again : tie.Need-loop-preserved invariant-loop decreases-loop
-loop-again c = all_below_more _ _ c.before.before.before.before.loop.invariant (passed c.before.slot-clear.ensures c.if1.false)
+loop-again : tie.Need-loop-s-preserved invariant-loop-s decreases-loop-s
+loop-again c = all_below_more _ _ c.before.before.before.before.loop-s.invariant (passed c.before.slot_clear.ensures c.if-not-slot_clear.false)
 
-returns-2 : tie.Need-returns-2 invariant-loop decreases-loop
+returns-2 : tie.Need-returns invariant-loop-s decreases-loop-s
 unfolding every_slot
-returns-2 c = all_passed _ _ _ c.loop-test.false c.before.loop.invariant
+returns-2 c = all_passed _ _ _ c.loop-s-test.false c.before.loop-s.invariant
 
-pub slots-clear-spec : {M : Type 1} → statement M
-slots-clear-spec =
+pub slots_clear_spec : {M : Type 1} → statement M
+slots_clear_spec =
     tie.close
-    (found3 (tie.spec invariant-loop decreases-loop (λ c. all_below-zero _)) (search rules)
+    (found3 (tie.spec invariant-loop-s decreases-loop-s (λ c. all_below-zero _)) (search rules)
     returns
     (λ c. search rules)
     (λ c. search rules)

@@ -1,4 +1,4 @@
--- `new_record` is the record of a new box with these set-up numbers. Assumes nothing.
+-- `new_record` is the record of a new box with these set_up_lem numbers. Assumes nothing.
 use borrow.Author.Rules.{rules}
 use Rattle.rules.specs.Record.{new_record}
 use Rattle.record_writing.proofs.new_box.new_record.Statement.{statement}
@@ -6,7 +6,7 @@ use Rattle.record_writing.proofs.new_box.new_record.Tie as tie
 
 returns : tie.Need-returns
 unfolding new_record
-returns c = rw c.zero-slot.ensures
+returns c = rw c.zero_slot-slot.ensures
 
-pub new-record-spec : {M : Type 1} → statement M
-new-record-spec = tie.close (tie.spec (λ c κs. search rules) returns)
+pub new_record_spec : {M : Type 1} → statement M
+new_record_spec = tie.close (tie.spec (λ c κs. search rules) returns)

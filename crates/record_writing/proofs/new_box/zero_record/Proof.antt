@@ -6,7 +6,7 @@ use Rattle.record_writing.proofs.new_box.zero_record.Tie as tie
 
 returns : tie.Need-returns
 unfolding zero_record
-returns c = c.new-record.ensures
+returns c = c.new_record.ensures
 
-pub zero-record-spec : {M : Type 1} → statement M
-zero-record-spec = tie.close (tie.spec (λ c κs. search rules) returns)
+pub zero_record_spec : {M : Type 1} → statement M
+zero_record_spec = tie.close (tie.spec (λ c κs. search rules) returns)

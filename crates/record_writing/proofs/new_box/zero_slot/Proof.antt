@@ -8,5 +8,5 @@ returns : tie.Need-returns
 unfolding zero_slot
 returns c = refl
 
-pub zero-slot-spec : {M : Type 1} → statement M
-zero-slot-spec = tie.close (tie.spec returns)
+pub zero_slot_spec : {M : Type 1} → statement M
+zero_slot_spec = tie.close (tie.spec returns)

@@ -6,8 +6,8 @@ use Rattle.folds.specs.Found.{found6, found7}
 use Rattle.records.proofs.bases.named.Statement.{statement}
 use Rattle.records.proofs.bases.named.Tie as tie
 
-pub named-spec : {M : Type 1} → statement M
-named-spec =
+pub named_spec : {M : Type 1} → statement M
+named_spec =
     tie.close
     (found7
     (found6 (tie.spec (λ letter text at₀ at. at ≤ length text) (λ letter text at₀ at. length text - at)) (search rules))

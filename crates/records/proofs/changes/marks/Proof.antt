@@ -5,5 +5,5 @@ use Rattle.folds.specs.Found.{found9}
 use Rattle.records.proofs.changes.marks.Statement.{statement}
 use Rattle.records.proofs.changes.marks.Tie as tie
 
-pub marks-spec : {M : Type 1} → statement M
-marks-spec = tie.close (found9 (tie.spec (λ first change marks₀ j₀ marks j. 0 ≤ j) (λ first change marks₀ j₀ marks j. 7 - j)) (search rules))
+pub marks_spec : {M : Type 1} → statement M
+marks_spec = tie.close (found9 (tie.spec (λ first change marks₀ j₀ marks j. 0 ≤ j) (λ first change marks₀ j₀ marks j. 7 - j)) (search rules))

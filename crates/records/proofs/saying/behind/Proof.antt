@@ -6,5 +6,5 @@ use Rattle.folds.specs.Found.{found7}
 use Rattle.records.proofs.saying.behind.Statement.{statement}
 use Rattle.records.proofs.saying.behind.Tie as tie
 
-pub behind-spec : {M : Type 1} → statement M
-behind-spec = tie.close (found7 (tie.spec (λ text from c at₀ at. (from ≤ at) × (at ≤ length text)) (λ text from c at₀ at. length text - at)) (search rules))
+pub behind_spec : {M : Type 1} → statement M
+behind_spec = tie.close (found7 (tie.spec (λ text from c at₀ at. (from ≤ at) × (at ≤ length text)) (λ text from c at₀ at. length text - at)) (search rules))

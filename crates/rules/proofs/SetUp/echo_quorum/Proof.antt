@@ -5,19 +5,19 @@ use Rattle.rules.specs.Numbers.{echo_quorum}
 use Rattle.rules.proofs.SetUp.echo_quorum.Statement.{statement}
 use Rattle.rules.proofs.SetUp.echo_quorum.Tie as tie
 
-add_half : tie.Need-overflow-add-half
+add_half : tie.Need-overflow_add-half
 add_half c = search rules
 
-add-half-2 : tie.Need-overflow-add-half-2
+add-half-2 : tie.Need-overflow_add-half-2
 add-half-2 c = search rules
 
-returns : tie.Need-returns
+returns : tie.Need-returns-then-k-half
 unfolding echo_quorum
 returns c = omega arith
 
-returns-2 : tie.Need-returns-2
+returns-2 : tie.Need-returns-else-k-half
 unfolding echo_quorum
 returns-2 c = omega arith
 
-pub echo-quorum-spec : {M : Type 1} → statement M
-echo-quorum-spec = tie.close (tie.spec add_half add-half-2 returns returns-2)
+pub echo_quorum_spec : {M : Type 1} → statement M
+echo_quorum_spec = tie.close (tie.spec add_half add-half-2 returns returns-2)

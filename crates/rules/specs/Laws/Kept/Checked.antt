@@ -24,7 +24,7 @@ use Rattle.rules.specs.Laws.Sound.{agree_comm}
 use Rattle.rules.specs.Laws.Kept.OpenSlot.{Fits, OpenFacts, open_facts, open_marks, open_same, open_new}
 use Rattle.rules.specs.Laws.Kept.TakenSlot.{taken_cases, taken_use, taken_contents, taken_shape, count_grows, right_stays, right_kept}
 use Rattle.rules.specs.Laws.Kept.Changes.{Good, heard-good, hears_own, Replaces, keeping_replaces, replaced_good, completing_good, share_good}
-use Rattle.rules.specs.Laws.Checks.{pairFrom-below, recovered_below}
+use Rattle.rules.specs.Laws.Checks.{pair_from_below, recovered_below}
 
 -- ---- the slot of an echo or ready
 
@@ -80,7 +80,7 @@ module _ (b : Side) (y : Record) (s m : ℕ) (C : List (List Element)) (f : Four
   next_replaces =
       record {
         contents = taken_contents y.setup numbers b (opened C (slot_at y s)) open_now m c.sender f c.below;
-        in_use = taken-use y.setup numbers b (opened C (slot_at y s)) open_now m c.sender f;
+        in_use = taken_use y.setup numbers b (opened C (slot_at y s)) open_now m c.sender f;
         shape = taken_shape b (opened C (slot_at y s)) open_now.shape m sender_low f;
         differ = λ r l n e h. open_differs r l n h;
         once = λ a i r li lr n e h.
@@ -104,7 +104,7 @@ module _ (b : Side) (y : Record) (s m : ℕ) (C : List (List Element)) (f : Four
   paired_good : (ps : List (Said Four)) → ready_due y.setup b (next b y s m C f) ≡ true → Good (with_slot y s (keeping (next b y s m C f) (pair_from (group_in y).q ps)))
   paired_good ps e =
       replaced_good y c.good s (keeping (next b y s m C f) (pair_from (group_in y).q ps)) here_now
-      (keeping_replaces y s (next b y s m C f) (pair_from (group_in y).q ps) (pairFrom-below (group_in y).q numbers.order ps) next_replaces)
+      (keeping_replaces y s (next b y s m C f) (pair_from (group_in y).q ps) (pair_from_below (group_in y).q numbers.order ps) next_replaces)
       (right_kept y.setup b (next b y s m C f) (pair_from (group_in y).q ps) e)
 
   -- the slot has k + t readies

@@ -10,29 +10,29 @@ use Rattle.sheet_reasons.specs.Reasons.{count_reason, own_reason}
 use Rattle.sheet_reasons.proofs.bad.own_reason.Statement.{statement}
 use Rattle.sheet_reasons.proofs.bad.own_reason.Tie as tie
 
-add-numbers : tie.Need-overflow-add-numbers
+add-numbers : tie.Need-overflow_add-numbers
 add-numbers c =
     let start = c.before.before.before in
     let at = start.requires.0 in
-    omega (arith, c.spaces-in.ensures, spaces_in_le start.args.b.now start.args.i at.place, at.size)
+    omega (arith, c.spaces_in-numbers.ensures, spaces_in_le start.args.b.now start.args.i at.place, at.size)
 
-returns : tie.Need-returns
+returns : tie.Need-returns-then-m-eq0
 unfolding own_reason
 returns c =
     let test = c.before.before in
     let k = test.before.before.args.k in
-    rw (eq-eqb _ _ test.if1.true) (c.count-reason.ensures ∙ ap (λ s. count_reason (k * k) (s + 1)) c.before.spaces-in.ensures)
+    rw (eq-eqb _ _ test.if-m-eq0.true) (c.count_reason.ensures ∙ ap (λ s. count_reason (k * k) (s + 1)) c.before.spaces_in-numbers.ensures)
 
-returns-2 : tie.Need-returns-2
+returns-2 : tie.Need-returns-then-m-n
 unfolding own_reason
-returns-2 c = rw (ne_eqb _ _ c.before.before.if1.false, le-leb _ _ c.before.if2.true) c.box-reason.ensures
+returns-2 c = rw (ne_eqb _ _ c.before.before.if-m-eq0.false, le-leb _ _ c.before.if-m-n.true) c.box_reason.ensures
 
-returns-3 : tie.Need-returns-3
+returns-3 : tie.Need-returns
 unfolding own_reason
-returns-3 c = rw (ne_eqb _ _ c.before.if1.false, lt-leb _ _ c.if2.false)
+returns-3 c = rw (ne_eqb _ _ c.before.if-m-eq0.false, lt-leb _ _ c.if-m-n.false)
 
-pub own-reason-spec : {M : Type 1} → statement M
-own-reason-spec =
+pub own_reason_spec : {M : Type 1} → statement M
+own_reason_spec =
     tie.close
     (tie.spec
     (λ c κs. search rules)

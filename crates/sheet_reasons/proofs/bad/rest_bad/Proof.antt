@@ -13,49 +13,49 @@ use Rattle.sheet_reasons.specs.Reasons.{good_lines_le, rest_bad}
 use Rattle.sheet_reasons.proofs.bad.rest_bad.Statement.{statement}
 use Rattle.sheet_reasons.proofs.bad.rest_bad.Tie as tie
 
-abbrev start : tie.After-good-lines → tie.Start
+abbrev start : tie.After-good_lines-m → tie.Start
 start c = c.before.before.before.before
 
 -- a sheet has few lines and few bytes
-few : (c : tie.After-good-lines) → c.good-lines.result ≤ 11
+few : (c : tie.After-good_lines-m) → c.good_lines-m.result ≤ 11
 few c =
     let given = (start c).args in
-    omega (arith, c.good-lines.ensures, good_lines_le given.b.now given.n given.k, (start c).requires.boxes)
+    omega (arith, c.good_lines-m.ensures, good_lines_le given.b.now given.n given.k, (start c).requires.boxes)
 
-small : (c : tie.After-good-lines) → length (start c).args.b.now ≤ 4096
+small : (c : tie.After-good_lines-m) → length (start c).args.b.now ≤ 4096
 unfolding first_line_keeps
 small c = leb-true _ 4096 (and_left (leb (length (start c).args.b.now) 4096) _ (start c).requires.keeps)
 
-returns : tie.Need-returns
+returns : tie.Need-returns-then-rest_keeps
 unfolding rest_bad
-returns c = rw (sym c.before.rest-keeps.ensures ∙ c.if1.true)
+returns c = rw (sym c.before.rest_keeps.ensures ∙ c.if-rest_keeps.true)
 
-own-reason-requires : tie.Need-own-reason-requires
+own-reason-requires : tie.Need-own_reason-own-requires
 own-reason-requires c κs =
     let good = c.before in
     let given = start good in (
       record {
         size = small good;
-        place = omega (arith, c.line-start.ensures, line_start_le given.args.b.now (good.good-lines.result + 1));
+        place = omega (arith, c.line_start-i.ensures, line_start_le given.args.b.now (good.good_lines-m.result + 1));
       },
       given.pre.high,
     )
 
-returns-2 : tie.Need-returns-2
+returns-2 : tie.Need-returns
 unfolding rest_bad
 returns-2 c =
     let own = c.before in
     let good = own.before.before in
     rw (
-      sym good.before.before.rest-keeps.ensures ∙ good.before.if1.false,
-      c.line-reason.ensures,
-      own.own-reason.ensures,
-      own.before.line-start.ensures,
-      good.good-lines.ensures,
+      sym good.before.before.rest_keeps.ensures ∙ good.before.if-rest_keeps.false,
+      c.line_reason-reason.ensures,
+      own.own_reason-own.ensures,
+      own.before.line_start-i.ensures,
+      good.good_lines-m.ensures,
     )
 
-pub rest-bad-spec : {M : Type 1} → statement M
-rest-bad-spec =
+pub rest_bad_spec : {M : Type 1} → statement M
+rest_bad_spec =
     tie.close
     (tie.spec
     (λ c κs. search rules)

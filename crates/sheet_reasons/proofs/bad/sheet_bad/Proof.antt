@@ -13,69 +13,69 @@ use Rattle.sheet_reasons.specs.Reasons.{line_reason, bad, rest_bad, sheet_bad}
 use Rattle.sheet_reasons.proofs.bad.sheet_bad.Statement.{statement}
 use Rattle.sheet_reasons.proofs.bad.sheet_bad.Tie as tie
 
-abbrev start : tie.Else1 → tie.Start
+abbrev start : tie.Else-b-gt-BYTES → tie.Start
 start c = c.before.before
 
-abbrev sized : tie.Else2 → tie.Else1
+abbrev sized : tie.Else-not-first_line_keeps → tie.Else-b-gt-BYTES
 sized c = c.before.before
 
--- the tests before, passed; what those of the set-up numbers say, of the sheet's
-small : (c : tie.Else1) → ltb 4096 (length (start c).args.b.now) ≡ false
-small c = le-ltb _ _ c.if1.false
+-- the tests before, passed; what those of the set_up_lem numbers say, of the sheet's
+small : (c : tie.Else-b-gt-BYTES) → ltb 4096 (length (start c).args.b.now) ≡ false
+small c = le-ltb _ _ c.if-b-gt-BYTES.false
 
-keeps : (c : tie.Else2) → first_line_keeps (start (sized c)).args.b.now ≡ true
-keeps c = passed c.before.first-line-keeps.ensures c.if2.false
+keeps : (c : tie.Else-not-first_line_keeps) → first_line_keeps (start (sized c)).args.b.now ≡ true
+keeps c = passed c.before.first_line_keeps.ensures c.if-not-first_line_keeps.false
 
-of-group : (c : tie.After-group-keeps) → c.group_keeps_lem.result ≡ group_keeps (sheet_set_up (start (sized c.before.before)).args.b.now)
-of-group c = c.group_keeps_lem.ensures ∙ ap group_keeps c.before.set-up.ensures
+of-group : (c : tie.After-group_keeps) → c.group_keeps.result ≡ group_keeps (sheet_set_up (start (sized c.before.before)).args.b.now)
+of-group c = c.group_keeps.ensures ∙ ap group_keeps c.before.set_up-u.ensures
 
-of-sizes : (c : tie.After-sizes-keep)
-    → let u = sheet_set_up (start (sized c.before.before.before.before)).args.b.now in c.sizes_keep_lem.result ≡ sizes_keep u.n u.t u.k
-of-sizes c = c.sizes_keep_lem.ensures ∙ ap (λ u. sizes_keep u.n u.t u.k) c.before.before.before.set-up.ensures
+of-sizes : (c : tie.After-sizes_keep)
+    → let u = sheet_set_up (start (sized c.before.before.before.before)).args.b.now in c.sizes_keep.result ≡ sizes_keep u.n u.t u.k
+of-sizes c = c.sizes_keep.ensures ∙ ap (λ u. sizes_keep u.n u.t u.k) c.before.before.before.set_up-u.ensures
 
-returns : tie.Need-returns
+returns : tie.Need-returns-then-b-gt-BYTES
 unfolding sheet_bad
-returns c = rw (lt-ltb _ _ c.if1.true)
+returns c = rw (lt-ltb _ _ c.if-b-gt-BYTES.true)
 
-returns-2 : tie.Need-returns-2
+returns-2 : tie.Need-returns-then-not-first_line_keeps
 unfolding sheet_bad
 returns-2 c =
     let test = c.before.before in
     let b = (start test.before.before).args.b.now in
-    rw (small test.before.before, failed test.before.first-line-keeps.ensures test.if2.true)
-    (ap (bad 1) (c.line-reason.ensures ∙ ap (line_reason b 0) c.before.first-reason.ensures))
+    rw (small test.before.before, failed test.before.first_line_keeps.ensures test.if-not-first_line_keeps.true)
+    (ap (bad 1) (c.line_reason-reason.ensures ∙ ap (line_reason b 0) c.before.first_reason-own.ensures))
 
-returns-3 : tie.Need-returns-3
+returns-3 : tie.Need-returns-then-not-group_keeps
 unfolding sheet_bad
 returns-3 c =
     let first = c.before.before.before in
-    rw (small (sized first), keeps first, failed (of-group c.before) c.if3.true)
+    rw (small (sized first), keeps first, failed (of-group c.before) c.if-not-group_keeps.true)
 
-returns-4 : tie.Need-returns-4
+returns-4 : tie.Need-returns-then-not-sizes_keep
 unfolding sheet_bad
 returns-4 c =
     let grouped = c.before.before in
     let first = grouped.before.before.before in
-    rw (small (sized first), keeps first, passed (of-group grouped.before) grouped.if3.false, failed (of-sizes c.before) c.if4.true)
+    rw (small (sized first), keeps first, passed (of-group grouped.before) grouped.if-not-group_keeps.false, failed (of-sizes c.before) c.if-not-sizes_keep.true)
 
-rest-bad-requires : tie.Need-rest-bad-requires
+rest-bad-requires : tie.Need-rest_bad-requires
 rest-bad-requires c κs =
     let test = c.before.before in
-    let s = sizes _ _ _ (passed test.before.sizes_keep_lem.ensures test.if4.false) in
+    let s = sizes _ _ _ (passed test.before.sizes_keep.ensures test.if-not-sizes_keep.false) in
     record { keeps = keeps test.before.before.before.before.before; boxes = s.boxes; high = s.high }
 
-returns-5 : tie.Need-returns-5
+returns-5 : tie.Need-returns
 unfolding sheet_bad
 returns-5 c =
     let test = c.before.before.before in
     let grouped = test.before.before in
     let first = grouped.before.before.before in
     let b = (start (sized first)).args.b.now in
-    rw (small (sized first), keeps first, passed (of-group grouped.before) grouped.if3.false, passed (of-sizes test.before) test.if4.false)
-    (c.rest-bad.ensures ∙ ap (λ u. rest_bad b u.n u.k) grouped.before.before.set-up.ensures)
+    rw (small (sized first), keeps first, passed (of-group grouped.before) grouped.if-not-group_keeps.false, passed (of-sizes test.before) test.if-not-sizes_keep.false)
+    (c.rest_bad.ensures ∙ ap (λ u. rest_bad b u.n u.k) grouped.before.before.set_up-u.ensures)
 
-pub sheet-bad-spec : {M : Type 1} → statement M
-sheet-bad-spec =
+pub sheet_bad_spec : {M : Type 1} → statement M
+sheet_bad_spec =
     tie.close
     (tie.spec
     returns

@@ -11,36 +11,36 @@ use Rattle.sheet_reasons.specs.Lines.{first_word}
 use Rattle.sheet_reasons.proofs.lines.first_word.Statement.{statement}
 use Rattle.sheet_reasons.proofs.lines.first_word.Tie as tie
 
-abbrev invariant-loop : tie.invariant-loop
-invariant-loop b i w j₀ j = first_from (length b - j) j (λ l. word_at b l w) ≡ first_word b i w
+abbrev invariant-loop-j : tie.invariant-loop-j
+invariant-loop-j b i w j₀ j = first_from (length b - j) j (λ l. word_at b l w) ≡ first_word b i w
 
-abbrev decreases-loop : tie.decreases-loop
-decreases-loop b i w j₀ j = length b - j
+abbrev decreases-loop-j : tie.decreases-loop-j
+decreases-loop-j b i w j₀ j = length b - j
 
-loop-holds : tie.Need-loop-init invariant-loop decreases-loop
+loop-holds : tie.Need-loop-j-init invariant-loop-j decreases-loop-j
 unfolding first_word
 loop-holds c = refl
 
-returns : tie.Need-returns invariant-loop decreases-loop
+returns : tie.Need-returns-then-word_at invariant-loop-j decreases-loop-j
 returns c =
     let turn = c.before.before in
-    sym (first_from_here _ _ _ turn.loop-test.true (sym c.before.word_at.ensures ∙ c.if1.true)) ∙ turn.before.loop.invariant
+    sym (first_from_here _ _ _ turn.loop-j-test.true (sym c.before.word_at.ensures ∙ c.if-word_at.true)) ∙ turn.before.loop-j.invariant
 
-loop-again : tie.Need-loop-preserved invariant-loop decreases-loop
+loop-again : tie.Need-loop-j-preserved invariant-loop-j decreases-loop-j
 loop-again c =
     let turn = c.before.before in
-    sym (first_from_skip _ _ _ turn.loop-test.true (sym c.before.word_at.ensures ∙ c.if1.false)) ∙ turn.before.loop.invariant
+    sym (first_from_skip _ _ _ turn.loop-j-test.true (sym c.before.word_at.ensures ∙ c.if-word_at.false)) ∙ turn.before.loop-j.invariant
 
-pub first-word-spec : {M : Type 1} → statement M
-first-word-spec =
+pub first_word_spec : {M : Type 1} → statement M
+first_word_spec =
     tie.close
     (tie.spec
-    invariant-loop
-    decreases-loop
+    invariant-loop-j
+    decreases-loop-j
     loop-holds
     (λ c κs. search rules)
     returns
     (λ c. omega arith)
     (λ c. omega arith)
     loop-again
-    (λ c. sym (first_from_none _ _ _ c.loop-test.false) ∙ c.before.loop.invariant))
+    (λ c. sym (first_from_none _ _ _ c.loop-j-test.false) ∙ c.before.loop-j.invariant))

@@ -9,7 +9,7 @@ use Rattle.sheet_reasons.proofs.lines.in_line.Tie as tie
 
 returns : tie.Need-returns
 unfolding in_line text
-returns c = ap₂ ltb c.before.before.first_word.ensures c.first-word2.ensures
+returns c = ap₂ ltb c.before.before.first_word-place.ensures c.first_word-end.ensures
 
-pub in-line-spec : {M : Type 1} → statement M
-in-line-spec = tie.close (tie.spec (λ c κs. search rules) (λ c. search rules) (λ c κs. search rules) returns)
+pub in_line_spec : {M : Type 1} → statement M
+in_line_spec = tie.close (tie.spec (λ c κs. search rules) (λ c. search rules) (λ c κs. search rules) returns)

@@ -16,52 +16,52 @@ use Rattle.sheet_reasons.proofs.lines.spaces_in.Tie as tie
 abbrev spaceAt : List ℕ → ℕ → ℕ → Bool
 spaceAt b i j = byte_at b (i + j) space
 
-abbrev invariant-loop : tie.invariant-loop
-invariant-loop b i end width spaces₀ j₀ spaces j = Counted (spaceAt b i) width j spaces
+abbrev invariant-loop-j : tie.invariant-loop-j
+invariant-loop-j b i end width spaces₀ j₀ spaces j = Counted (spaceAt b i) width j spaces
 
-abbrev decreases-loop : tie.decreases-loop
-decreases-loop b i end width spaces₀ j₀ spaces j = width - j
+abbrev decreases-loop-j : tie.decreases-loop-j
+decreases-loop-j b i end width spaces₀ j₀ spaces j = width - j
 
 -- where the line ends
-ends : (c : tie.After-first-word invariant-loop decreases-loop)
-    → let given = c.before.before.before.args in c.first_word.result ≡ line_end given.b.now given.i
+ends : (c : tie.After-first_word-end invariant-loop-j decreases-loop-j)
+    → let given = c.before.before.before.args in c.first_word-end.result ≡ line_end given.b.now given.i
 unfolding text
-ends c = c.first_word.ensures
+ends c = c.first_word-end.ensures
 
-returns : tie.Need-returns invariant-loop decreases-loop
+returns : tie.Need-returns-then-end-i invariant-loop-j decreases-loop-j
 unfolding spaces_in
 returns c =
     let given = c.before.before.before.before.args in
     let none : line_end given.b.now given.i - given.i ≡ 0 = omega (arith, ends c.before) in
     sym (ap (λ n. count_below n (spaceAt given.b.now given.i)) none ∙ count_below-zero _)
 
-add-spaces : tie.Need-overflow-add-spaces invariant-loop decreases-loop
+add-spaces : tie.Need-overflow_add-spaces invariant-loop-j decreases-loop-j
 add-spaces c =
     let head = c.before.before.before in
     let given = head.before.before.before.before.before.args in
-    omega (arith, count_below_le (spaceAt given.b.now given.i) head.loop.j)
+    omega (arith, count_below_le (spaceAt given.b.now given.i) head.loop-j.j)
 
-loop-again : tie.Need-loop-preserved invariant-loop decreases-loop
+loop-again : tie.Need-loop-j-preserved invariant-loop-j decreases-loop-j
 loop-again c =
     let turn = c.before.before in
-    let next = counted_more _ _ _ turn.loop-test.true turn.before.loop.invariant in
-    let test = sym c.before.byte-at.ensures in
-    ⊎_elim (λ w. next.0 (test ∙ w.0.taken) w.1) (λ w. next.1 (test ∙ w.0.left) w.1) c.if2.branch
+    let next = counted_more _ _ _ turn.loop-j-test.true turn.before.loop-j.invariant in
+    let test = sym c.before.byte_at.ensures in
+    ⊎_elim (λ w. next.0 (test ∙ w.0.taken) w.1) (λ w. next.1 (test ∙ w.0.left) w.1) c.if-byte_at.branch
 
-returns-2 : tie.Need-returns-2 invariant-loop decreases-loop
+returns-2 : tie.Need-returns invariant-loop-j decreases-loop-j
 unfolding spaces_in
 returns-2 c =
     let found = c.before.before.before in
     let given = found.before.before.before.args in
-    counted_all (spaceAt given.b.now given.i) _ _ c.loop-test.false c.before.loop.invariant
+    counted_all (spaceAt given.b.now given.i) _ _ c.loop-j-test.false c.before.loop-j.invariant
     ∙ ap (λ e. count_below (e - given.i) (spaceAt given.b.now given.i)) (ends found)
 
-pub spaces-in-spec : {M : Type 1} → statement M
-spaces-in-spec =
+pub spaces_in_spec : {M : Type 1} → statement M
+spaces_in_spec =
     tie.close
     (tie.spec
-    invariant-loop
-    decreases-loop
+    invariant-loop-j
+    decreases-loop-j
     (λ c. search rules)
     (λ c κs. search rules)
     returns

@@ -4,17 +4,17 @@ use Rattle.sheet_reasons.specs.Reasons.{count_reason}
 use Rattle.sheet_reasons.proofs.reasons.count_reason.Statement.{statement}
 use Rattle.sheet_reasons.proofs.reasons.count_reason.Tie as tie
 
-returns : tie.Need-returns
+returns : tie.Need-returns-then-have-want
 unfolding count_reason
-returns c = rw (lt-ltb _ _ c.if1.true)
+returns c = rw (lt-ltb _ _ c.if-have-want.true)
 
-returns-2 : tie.Need-returns-2
+returns-2 : tie.Need-returns-then-want-have
 unfolding count_reason
-returns-2 c = rw (le-ltb _ _ c.before.if1.false, lt-ltb _ _ c.if2.true)
+returns-2 c = rw (le-ltb _ _ c.before.if-have-want.false, lt-ltb _ _ c.if-want-have.true)
 
-returns-3 : tie.Need-returns-3
+returns-3 : tie.Need-returns
 unfolding count_reason
-returns-3 c = rw (le-ltb _ _ c.before.if1.false, le-ltb _ _ c.if2.false)
+returns-3 c = rw (le-ltb _ _ c.before.if-have-want.false, le-ltb _ _ c.if-want-have.false)
 
-pub count-reason-spec : {M : Type 1} → statement M
-count-reason-spec = tie.close (tie.spec returns returns-2 returns-3)
+pub count_reason_spec : {M : Type 1} → statement M
+count_reason_spec = tie.close (tie.spec returns returns-2 returns-3)

@@ -7,26 +7,26 @@ use Rattle.sheet_reasons.specs.Reasons.{count_reason, first_reason}
 use Rattle.sheet_reasons.proofs.reasons.first_reason.Statement.{statement}
 use Rattle.sheet_reasons.proofs.reasons.first_reason.Tie as tie
 
-returns : tie.Need-returns
+returns : tie.Need-word_at-requires
 unfolding first_reason text
-returns c = rw (sym c.before.word_at.ensures ∙ c.if1.true)
+returns c = rw (sym c.before.word_at.ensures ∙ c.if-word_at.true)
 
-returns-2 : tie.Need-returns-2
+returns-2 : tie.Need-returns-then-not-word_at
 unfolding first_reason text
 returns-2 c =
     let alone = c.before.before.before in
-    rw (sym alone.before.word_at.ensures ∙ alone.if1.false, failed c.before.word-at2.ensures c.if2.true)
+    rw (sym alone.before.word_at.ensures ∙ alone.if-word_at.false, failed c.before.word_at-2.ensures c.if-not-word_at.true)
 
-returns-3 : tie.Need-returns-3
+returns-3 : tie.Need-returns
 unfolding first_reason text
 returns-3 c =
     let named = c.before.before in
     let alone = named.before.before.before in
-    rw (sym alone.before.word_at.ensures ∙ alone.if1.false, passed named.before.word-at2.ensures named.if2.false)
-    (c.count-reason.ensures ∙ ap (count_reason 4) c.before.spaces-in.ensures)
+    rw (sym alone.before.word_at.ensures ∙ alone.if-word_at.false, passed named.before.word_at-2.ensures named.if-not-word_at.false)
+    (c.count_reason.ensures ∙ ap (count_reason 4) c.before.spaces_in-numbers.ensures)
 
-pub first-reason-spec : {M : Type 1} → statement M
-first-reason-spec =
+pub first_reason_spec : {M : Type 1} → statement M
+first_reason_spec =
     tie.close
     (tie.spec
     (λ c. search rules) (λ c κs. search rules)

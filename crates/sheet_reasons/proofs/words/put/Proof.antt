@@ -9,18 +9,18 @@ use Rattle.sheet_reasons.specs.Reasons.{reason_text, bad_text}
 use Rattle.sheet_reasons.proofs.words.put.Statement.{statement}
 use Rattle.sheet_reasons.proofs.words.put.Tie as tie
 
-returns : tie.Need-returns
+returns : tie.Need-put_reason-requires
 unfolding bad_text
 returns c =
     let put = c.before.before in
     let test = put.before.before in
     let found = test.before.before in
     let given = found.before.before.before.args in
-    let x = found.sheet-bad.result in
-    rw (← found.sheet-bad.ensures, eq-eqb _ _ test.if1.true)
-    (puts_room given.page.now 0 (reason_text x.reason) 50 128 (omega arith) put.put-reason.ensures)
+    let x = found.sheet_bad-bad.result in
+    rw (← found.sheet_bad-bad.ensures, eq-eqb _ _ test.if-bad-eq0.true)
+    (puts_room given.page-1.now 0 (reason_text x.reason) 50 128 (omega arith) put.put_reason.ensures)
 
-returns-2 : tie.Need-returns-2
+returns-2 : tie.Need-returns
 unfolding bad_text text
 returns-2 c =
     let fourth = c.before.before in
@@ -30,16 +30,16 @@ returns-2 c =
     let test = first.before.before.before in
     let found = test.before.before in
     let page = found.before.before.before.args.page.now in
-    let x = found.sheet-bad.result in
+    let x = found.sheet_bad-bad.result in
     let a = text "sheet: line " in
     let line = a ++ decimal x.line in
-    rw (← found.sheet-bad.ensures, ne_eqb _ _ test.if1.false)
+    rw (← found.sheet_bad-bad.ensures, ne_eqb _ _ test.if-bad-eq0.false)
     (puts_room page 0 (line ++ text ": " ++ reason_text x.reason) 69 128 (omega arith)
     (puts_then page 0 (line ++ text ": ") (reason_text x.reason) 19 50
     (puts_then_word page 0 line (text ": ") 17
-    (puts_then page 0 a (decimal x.line) 12 5 (puts_word page 0 a first.put_word.ensures) second.put-decimal.ensures)
-    third.put-word2.ensures)
-    fourth.put-reason2.ensures))
+    (puts_then page 0 a (decimal x.line) 12 5 (puts_word page 0 a first.put_word-next.ensures) second.put_decimal-next.ensures)
+    third.put_word-next-2.ensures)
+    fourth.put_reason-2.ensures))
 
 pub put_spec : {M : Type 1} → statement M
 put_spec =

@@ -7,102 +7,102 @@ use Rattle.text.specs.Puts.{puts_word_room}
 use Rattle.sheet_reasons.proofs.words.put_reason.Statement.{statement}
 use Rattle.sheet_reasons.proofs.words.put_reason.Tie as tie
 
-returns : tie.Need-returns
-returns c = rw c.enum_told.given.1 (omega arith, omega arith, refl)
+returns : tie.Need-returns-in-Nothing
+returns c = rw c.enum_told-1.given.1 (omega arith, omega arith, refl)
 
-returns-2 : tie.Need-returns-2
+returns-2 : tie.Need-returns-in-TooLong
 unfolding text
 returns-2 c =
     let told = c.before.before.before.before.before in
     let given = told.before.before.before.args in
-    rw told.enum-told2.given.1 (puts_word_room given.page.now given.at (text "sheet: over 4,096 bytes\n") 50 (omega arith) c.before.before.put_word.ensures)
+    rw told.enum_told-in-TooLong-1.given.1 (puts_word_room given.page-1.now given.at (text "sheet: over 4,096 bytes\n") 50 (omega arith) c.before.before.put_word.ensures)
 
-returns-3 : tie.Need-returns-3
+returns-3 : tie.Need-returns-in-Missing
 unfolding text
 returns-3 c =
     let told = c.before.before.before.before.before in
     let given = told.before.before.before.args in
-    rw told.enum-told3.given.1 (puts_word_room given.page.now given.at (text "missing\n") 50 (omega arith) c.before.before.put-word2.ensures)
+    rw told.enum_told-in-Missing-1.given.1 (puts_word_room given.page-1.now given.at (text "missing\n") 50 (omega arith) c.before.before.put_word-in-Missing.ensures)
 
-returns-4 : tie.Need-returns-4
+returns-4 : tie.Need-returns-in-CarriageReturn
 unfolding text
 returns-4 c =
     let told = c.before.before.before.before.before in
     let given = told.before.before.before.args in
-    rw told.enum-told4.given.1 (puts_word_room given.page.now given.at (text "a carriage return\n") 50 (omega arith) c.before.before.put-word3.ensures)
+    rw told.enum_told-in-CarriageReturn-1.given.1 (puts_word_room given.page-1.now given.at (text "a carriage return\n") 50 (omega arith) c.before.before.put_word-in-CarriageReturn.ensures)
 
-returns-5 : tie.Need-returns-5
+returns-5 : tie.Need-returns-in-NoNewline
 unfolding text
 returns-5 c =
     let told = c.before.before.before.before.before in
     let given = told.before.before.before.args in
-    rw told.enum-told5.given.1 (puts_word_room given.page.now given.at (text "no newline at its end\n") 50 (omega arith) c.before.before.put-word4.ensures)
+    rw told.enum_told-in-NoNewline-1.given.1 (puts_word_room given.page-1.now given.at (text "no newline at its end\n") 50 (omega arith) c.before.before.put_word-in-NoNewline.ensures)
 
-returns-6 : tie.Need-returns-6
+returns-6 : tie.Need-returns-in-TwoSpaces
 unfolding text
 returns-6 c =
     let told = c.before.before.before.before.before in
     let given = told.before.before.before.args in
-    rw told.enum-told6.given.1 (puts_word_room given.page.now given.at (text "two spaces\n") 50 (omega arith) c.before.before.put-word5.ensures)
+    rw told.enum_told-in-TwoSpaces-1.given.1 (puts_word_room given.page-1.now given.at (text "two spaces\n") 50 (omega arith) c.before.before.put_word-in-TwoSpaces.ensures)
 
-returns-7 : tie.Need-returns-7
+returns-7 : tie.Need-returns-in-SpaceAtEdge
 unfolding text
 returns-7 c =
     let told = c.before.before.before.before.before in
     let given = told.before.before.before.args in
-    rw told.enum-told7.given.1 (puts_word_room given.page.now given.at (text "a space at its start or end\n") 50 (omega arith) c.before.before.put-word6.ensures)
+    rw told.enum_told-in-SpaceAtEdge-1.given.1 (puts_word_room given.page-1.now given.at (text "a space at its start or end\n") 50 (omega arith) c.before.before.put_word-in-SpaceAtEdge.ensures)
 
-returns-8 : tie.Need-returns-8
+returns-8 : tie.Need-returns-in-NotSheet
 unfolding text
 returns-8 c =
     let told = c.before.before.before.before.before in
     let given = told.before.before.before.args in
-    rw told.enum-told8.given.1 (puts_word_room given.page.now given.at (text "another word than sheet\n") 50 (omega arith) c.before.before.put-word7.ensures)
+    rw told.enum_told-in-NotSheet-1.given.1 (puts_word_room given.page-1.now given.at (text "another word than sheet\n") 50 (omega arith) c.before.before.put_word-in-NotSheet.ensures)
 
-returns-9 : tie.Need-returns-9
+returns-9 : tie.Need-returns-in-OutOfOrder
 unfolding text
 returns-9 c =
     let told = c.before.before.before.before.before in
     let given = told.before.before.before.args in
-    rw told.enum-told9.given.1 (puts_word_room given.page.now given.at (text "a box out of order\n") 50 (omega arith) c.before.before.put-word8.ensures)
+    rw told.enum_told-in-OutOfOrder-1.given.1 (puts_word_room given.page-1.now given.at (text "a box out of order\n") 50 (omega arith) c.before.before.put_word-in-OutOfOrder.ensures)
 
-returns-10 : tie.Need-returns-10
+returns-10 : tie.Need-returns-in-NotSilent
 unfolding text
 returns-10 c =
     let told = c.before.before.before.before.before in
     let given = told.before.before.before.args in
-    rw told.enum-told10.given.1 (puts_word_room given.page.now given.at (text "another word than silent\n") 50 (omega arith) c.before.before.put-word9.ensures)
+    rw told.enum_told-in-NotSilent-1.given.1 (puts_word_room given.page-1.now given.at (text "another word than silent\n") 50 (omega arith) c.before.before.put_word-in-NotSilent.ensures)
 
-returns-11 : tie.Need-returns-11
+returns-11 : tie.Need-returns-in-TooFew
 unfolding text
 returns-11 c =
     let told = c.before.before.before.before.before in
     let given = told.before.before.before.args in
-    rw told.enum-told11.given.1 (puts_word_room given.page.now given.at (text "too few numbers\n") 50 (omega arith) c.before.before.put-word10.ensures)
+    rw told.enum_told-in-TooFew-1.given.1 (puts_word_room given.page-1.now given.at (text "too few numbers\n") 50 (omega arith) c.before.before.put_word-in-TooFew.ensures)
 
-returns-12 : tie.Need-returns-12
+returns-12 : tie.Need-returns-in-TooMany
 unfolding text
 returns-12 c =
     let told = c.before.before.before.before.before in
     let given = told.before.before.before.args in
-    rw told.enum-told12.given.1 (puts_word_room given.page.now given.at (text "too many numbers\n") 50 (omega arith) c.before.before.put-word11.ensures)
+    rw told.enum_told-in-TooMany-1.given.1 (puts_word_room given.page-1.now given.at (text "too many numbers\n") 50 (omega arith) c.before.before.put_word-in-TooMany.ensures)
 
-returns-13 : tie.Need-returns-13
+returns-13 : tie.Need-returns-in-NoDecimal
 unfolding text
 returns-13 c =
     let told = c.before.before.before.before.before in
     let given = told.before.before.before.args in
-    rw told.enum-told13.given.1 (puts_word_room given.page.now given.at (text "not a decimal up to 65,535 without leading zeros\n") 50 (omega arith) c.before.before.put-word12.ensures)
+    rw told.enum_told-in-NoDecimal-1.given.1 (puts_word_room given.page-1.now given.at (text "not a decimal up to 65,535 without leading zeros\n") 50 (omega arith) c.before.before.put_word-in-NoDecimal.ensures)
 
-returns-14 : tie.Need-returns-14
+returns-14 : tie.Need-returns-in-LineTooMany
 unfolding text
 returns-14 c =
     let told = c.before.before.before.before.before in
     let given = told.before.before.before.args in
-    rw told.enum-told14.given.1 (puts_word_room given.page.now given.at (text "a line too many\n") 50 (omega arith) c.before.before.put-word13.ensures)
+    rw told.enum_told-in-LineTooMany-1.given.1 (puts_word_room given.page-1.now given.at (text "a line too many\n") 50 (omega arith) c.before.before.put_word-in-LineTooMany.ensures)
 
-pub put-reason-spec : {M : Type 1} → statement M
-put-reason-spec =
+pub put_reason_spec : {M : Type 1} → statement M
+put_reason_spec =
     tie.close
     (tie.spec
     (λ c. search rules)

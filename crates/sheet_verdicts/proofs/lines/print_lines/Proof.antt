@@ -16,11 +16,11 @@ returns c =
     let shares = verified_shares given.group given.k given.c given.n given.shares in
     let a = box_lines given.group given.k given.c given.n given.shares in
     let b = last_line given.group.q given.k (share_points shares) in
-    puts_written given.page.now _ 272 (omega arith)
-    (puts_then given.page.now 0 a b 200 72 lines.put-box-lines.ensures (rw verified.verified-shares.ensures at c.before.before.put-last-line.ensures))
+    puts_written given.page-1.now _ 272 (omega arith)
+    (puts_then given.page-1.now 0 a b 200 72 lines.put_box_lines-next.ensures (rw verified.verified_shares-verified.ensures at c.before.before.put_last_line.ensures))
 
-pub print-lines-spec : {M : Type 1} → statement M
-print-lines-spec =
+pub print_lines_spec : {M : Type 1} → statement M
+print_lines_spec =
     tie.close
     (tie.spec
     (λ c κs. search rules) (λ c κs. search rules) (λ c κs. search rules) (λ c. search rules)

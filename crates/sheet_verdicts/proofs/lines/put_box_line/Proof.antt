@@ -15,15 +15,15 @@ returns c =
     let second = third.before.before.before.before in
     let first = second.before.before.before.before.before in
     let given = first.before.before.before.args in
-    let page = given.page.now in
+    let page = given.page-1.now in
     let at = given.at in
     let a = decimal given.number in
     puts_then page at (a ++ text " ") (verdict_text given.verdict) 6 14
-    (puts_then_word page at a (text " ") 5 first.put-decimal.ensures second.put_word.ensures)
-    third.put-verdict.ensures
+    (puts_then_word page at a (text " ") 5 first.put_decimal-next.ensures second.put_word-says.ensures)
+    third.put_verdict.ensures
 
-pub put-box-line-spec : {M : Type 1} → statement M
-put-box-line-spec =
+pub put_box_line_spec : {M : Type 1} → statement M
+put_box_line_spec =
     tie.close
     (tie.spec
     (λ c κs. search rules) (λ c. search rules) (λ c κs. search rules) (λ c κs. search rules) (λ c. search rules)

@@ -21,38 +21,38 @@ use Rattle.sheet_verdicts.proofs.lines.put_box_lines.Tie as tie
 abbrev line_of : Group → ℕ → List (List Element) → List Keep → ℕ → List ℕ
 line_of G k C shares i = decimal (i + 1) ++ text " " ++ verdict_text (verdict G k C (i + 1) (share_at shares i))
 
-abbrev invariant-loop : tie.invariant-loop
-invariant-loop page₀ group k c n shares next₀ m₀ number₀ page next m number =
+abbrev invariant-loop-m : tie.invariant-loop-m
+invariant-loop-m page₀ group k c n shares next₀ m₀ number₀ page next m number =
     PutRuns (line_of group k c shares) 20 n 0 page₀ page next m × (number ≡ m + 1)
 
-abbrev decreases-loop : tie.decreases-loop
-decreases-loop page₀ group k c n shares next₀ m₀ number₀ page next m number = n - m
+abbrev decreases-loop-m : tie.decreases-loop-m
+decreases-loop-m page₀ group k c n shares next₀ m₀ number₀ page next m number = n - m
 
-loop-again : tie.Need-loop-preserved invariant-loop decreases-loop
+loop-again : tie.Need-loop-m-preserved invariant-loop-m decreases-loop-m
 unfolding box_line
 loop-again c =
     let judged = c.before.before.before.before in
     let turn = judged.before.before in
-    let loop = turn.before.loop in
-    let line = rw (judged.on.ensures, loop.invariant.1) at c.before.before.put-box-line.ensures in
-    (runs_more loop.invariant.0 turn.loop-test.true line, ap (λ i. i + 1) loop.invariant.1)
+    let loop = turn.before.loop-m in
+    let line = rw (judged.on-verdict.ensures, loop.invariant.1) at c.before.before.put_box_line-next.ensures in
+    (runs_more loop.invariant.0 turn.loop-m-test.true line, ap (λ i. i + 1) loop.invariant.1)
 
-returns : tie.Need-returns invariant-loop decreases-loop
+returns : tie.Need-returns invariant-loop-m decreases-loop-m
 unfolding box_lines
 returns c =
     let given = c.before.before.before.args in
-    puts_room given.page.now 0 (gather given.n (line_of given.group given.k given.c given.t6)) (given.n * 20) 200 (omega arith)
-    (runs_all c.before.loop.invariant.0 c.loop-test.false)
+    puts_room given.page-1.now 0 (gather given.n (line_of given.group given.k given.c given.t6)) (given.n * 20) 200 (omega arith)
+    (runs_all c.before.loop-m.invariant.0 c.loop-m-test.false)
 
-pub put-box-lines-spec : {M : Type 1} → statement M
-put-box-lines-spec =
+pub put_box_lines_spec : {M : Type 1} → statement M
+put_box_lines_spec =
     tie.close
     (tie.spec
-    invariant-loop
-    decreases-loop
+    invariant-loop-m
+    decreases-loop-m
     (λ c. (runs_none _ 20 _ 0 _, refl))
     (λ c. search rules) (λ c. search rules) (λ c κs. search rules) (λ c κs. search rules) (λ c. search rules)
     (λ c. search rules) (λ c. search rules)
     loop-again
-    (λ c. c.before.loop.invariant.0.same)
+    (λ c. c.before.loop-m.invariant.0.same)
     returns)

@@ -16,35 +16,35 @@ use Rattle.sheet_verdicts.proofs.lines.put_boxes.Tie as tie
 abbrev number_of : List ℕ → ℕ → List ℕ
 number_of boxes i = text " " ++ decimal (get_or boxes i 0)
 
-abbrev invariant-loop : tie.invariant-loop
-invariant-loop page₀ at count boxes next₀ j₀ space page next j = PutRuns (number_of boxes) 6 count at page₀ page next j
+abbrev invariant-loop-j : tie.invariant-loop-j
+invariant-loop-j page₀ at count boxes next₀ j₀ space page next j = PutRuns (number_of boxes) 6 count at page₀ page next j
 
-abbrev decreases-loop : tie.decreases-loop
-decreases-loop page₀ at count boxes next₀ j₀ space page next j = count - j
+abbrev decreases-loop-j : tie.decreases-loop-j
+decreases-loop-j page₀ at count boxes next₀ j₀ space page next j = count - j
 
-loop-again : tie.Need-loop-preserved invariant-loop decreases-loop
+loop-again : tie.Need-loop-j-preserved invariant-loop-j decreases-loop-j
 unfolding text
 loop-again c =
     let put = c.before.before in
     let turn = put.before.before.before in
-    runs_more turn.before.loop.invariant turn.loop-test.true put.put-numbered.ensures
+    runs_more turn.before.loop-j.invariant turn.loop-j-test.true put.put_numbered-next.ensures
 
-returns : tie.Need-returns invariant-loop decreases-loop
+returns : tie.Need-returns invariant-loop-j decreases-loop-j
 unfolding boxes_text
 returns c =
     let given = c.before.before.before.args in
-    puts_room given.page.now given.at (gather given.count (number_of given.t4)) (given.count * 6) 48 (omega arith)
-    (runs_all c.before.loop.invariant c.loop-test.false)
+    puts_room given.page-1.now given.at (gather given.count (number_of given.t4)) (given.count * 6) 48 (omega arith)
+    (runs_all c.before.loop-j.invariant c.loop-j-test.false)
 
-pub put-boxes-spec : {M : Type 1} → statement M
-put-boxes-spec =
+pub put_boxes_spec : {M : Type 1} → statement M
+put_boxes_spec =
     tie.close
     (tie.spec
-    invariant-loop
-    decreases-loop
+    invariant-loop-j
+    decreases-loop-j
     (λ c. runs_none _ 6 _ _ _)
     (λ c. search rules) (λ c. search rules) (λ c. search rules) (λ c κs. search rules) (λ c. search rules)
     (λ c. search rules)
     loop-again
-    (λ c. c.before.loop.invariant.same)
+    (λ c. c.before.loop-j.invariant.same)
     returns)

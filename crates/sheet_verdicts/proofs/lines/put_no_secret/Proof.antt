@@ -15,17 +15,17 @@ returns c =
     let second = third.before.before.before.before.before in
     let first = second.before.before.before.before.before in
     let given = first.before.before.before.before.args in
-    let page = given.page.now in
+    let page = given.page-1.now in
     let at = given.at in
     let v = text "no secret, " ++ decimal given.v in
     let k = decimal given.k in
     puts_room page at (v ++ text " of " ++ k ++ text "\n") 26 72 (omega arith)
     (puts_then_word page at (v ++ text " of " ++ k) (text "\n") 25
-    (puts_then_two page at v (text " of ") k 16 9 first.put-numbered.ensures second.put-numbered2.ensures)
+    (puts_then_two page at v (text " of ") k 16 9 first.put_numbered-next.ensures second.put_numbered-next-2.ensures)
     third.put_word.ensures)
 
-pub put-no-secret-spec : {M : Type 1} → statement M
-put-no-secret-spec =
+pub put_no_secret_spec : {M : Type 1} → statement M
+put_no_secret_spec =
     tie.close
     (tie.spec
     (λ c. search rules) (λ c κs. search rules) (λ c. search rules) (λ c κs. search rules) (λ c. search rules)

@@ -11,7 +11,7 @@ returns c =
     let word = number.before.before.before.before in
     let given = word.before.before.before.before.args in
     let w = given.word.now in
-    puts_then given.page.now given.at w _ (length w) 5 (puts_word given.page.now given.at w word.put_word.ensures) number.put-decimal.ensures
+    puts_then given.page-1.now given.at w _ (length w) 5 (puts_word given.page-1.now given.at w word.put_word-next.ensures) number.put_decimal.ensures
 
-pub put-numbered-spec : {M : Type 1} → statement M
-put-numbered-spec = tie.close (tie.spec (λ c κs. search rules) (λ c κs. search rules) (λ c. search rules) returns)
+pub put_numbered_spec : {M : Type 1} → statement M
+put_numbered_spec = tie.close (tie.spec (λ c κs. search rules) (λ c κs. search rules) (λ c. search rules) returns)

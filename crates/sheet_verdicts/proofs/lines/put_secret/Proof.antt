@@ -16,7 +16,7 @@ returns c =
     let second = third.before.before.before.before.before in
     let first = second.before.before.before.before.before in
     let given = first.before.before.before.before.before.before.args in
-    let page = given.page.now in
+    let page = given.page-1.now in
     let at = given.at in
     let s = text "secret " ++ decimal given.pair.first.0 in
     let pair = s ++ text " " ++ decimal given.pair.second.0 in
@@ -24,13 +24,13 @@ returns c =
     puts_then_word page at (pair ++ text " from" ++ boxes) (text "\n") 71
     (puts_then page at (pair ++ text " from") boxes 23 48
     (puts_then_word page at pair (text " from") 18
-    (puts_then_two page at s (text " ") (decimal given.pair.second.0) 12 6 first.put-numbered.ensures second.put-numbered2.ensures)
-    third.put_word.ensures)
-    fourth.put-boxes.ensures)
-    fifth.put-word2.ensures
+    (puts_then_two page at s (text " ") (decimal given.pair.second.0) 12 6 first.put_numbered-next.ensures second.put_numbered-next-2.ensures)
+    third.put_word-next.ensures)
+    fourth.put_boxes-next.ensures)
+    fifth.put_word.ensures
 
-pub put-secret-spec : {M : Type 1} → statement M
-put-secret-spec =
+pub put_secret_spec : {M : Type 1} → statement M
+put_secret_spec =
     tie.close
     (tie.spec
     (λ c. search rules) (λ c κs. search rules) (λ c. search rules) (λ c κs. search rules) (λ c. search rules)

@@ -11,29 +11,29 @@ use Rattle.sheet_verdicts.specs.Verdicts.{verified_keep}
 use Rattle.sheet_verdicts.proofs.verdicts.verified_shares.Statement.{statement}
 use Rattle.sheet_verdicts.proofs.verdicts.verified_shares.Tie as tie
 
-abbrev invariant-loop : tie.invariant-loop
-invariant-loop group k c n shares made₀ m₀ number₀ made m number =
+abbrev invariant-loop-m : tie.invariant-loop-m
+invariant-loop-m group k c n shares made₀ m₀ number₀ made m number =
     (number ≡ m + 1) × Filling (λ i. verified_keep group k c (i + 1) (share_at shares i)) made₀ n m made
 
-abbrev decreases-loop : tie.decreases-loop
-decreases-loop group k c n shares made₀ m₀ number₀ made m number = n - m
+abbrev decreases-loop-m : tie.decreases-loop-m
+decreases-loop-m group k c n shares made₀ m₀ number₀ made m number = n - m
 
-loop-again : tie.Need-loop-preserved invariant-loop decreases-loop
+loop-again : tie.Need-loop-m-preserved invariant-loop-m decreases-loop-m
 loop-again c =
     let turn = c.before.before in
-    let inv = turn.before.loop.invariant in
-    (omega arith, filling_more inv.1 turn.loop-test.true (rw (c.if-verified.ensures, inv.0)))
+    let inv = turn.before.loop-m.invariant in
+    (omega arith, filling_more inv.1 turn.loop-m-test.true (rw (c.if_verified-keep.ensures, inv.0)))
 
-returns : tie.Need-returns invariant-loop decreases-loop
+returns : tie.Need-returns invariant-loop-m decreases-loop-m
 unfolding verified_shares verified_keep
-returns c = filling_all c.before.loop.invariant.1 c.loop-test.false
+returns c = filling_all c.before.loop-m.invariant.1 c.loop-m-test.false
 
-pub verified-shares-spec : {M : Type 1} → statement M
-verified-shares-spec =
+pub verified_shares_spec : {M : Type 1} → statement M
+verified_shares_spec =
     tie.close
     (tie.spec
-    invariant-loop
-    decreases-loop
+    invariant-loop-m
+    decreases-loop-m
     (λ c. (refl, filling_none))
     (λ c. search rules) (λ c. search rules) (λ c κs. search rules) (λ c. search rules) (λ c. search rules)
     (λ c. search rules) (λ c. search rules) (λ c. search rules)

@@ -4,11 +4,11 @@ use borrow.Author.Tests.{lt-ltb, le-ltb}
 use Rattle.text.proofs.hexadecimal.glyph_of.Statement.{statement}
 use Rattle.text.proofs.hexadecimal.glyph_of.Tie as tie
 
-pub glyph-of-spec : {M : Type 1} → statement M
-glyph-of-spec =
+pub glyph_of_spec : {M : Type 1} → statement M
+glyph_of_spec =
     tie.close
     (tie.spec
     (λ c. search rules)
-    (λ c. rw (lt-ltb _ _ c.if1.true))
+    (λ c. rw (lt-ltb _ _ c.if-x-lt10.true))
     (λ c. search rules)
-    (λ c. rw (le-ltb _ _ c.if1.false)))
+    (λ c. rw (le-ltb _ _ c.if-x-lt10.false)))

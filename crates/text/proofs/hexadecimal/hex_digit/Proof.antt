@@ -16,11 +16,11 @@ digit c =
     (λ w. (omega arith, w.1, λ g. w.0))
     (hex_digit_is c.args.x c.requires)
 
-pub hex-digit-spec : {M : Type 1} → statement M
-hex-digit-spec =
+pub hex_digit_spec : {M : Type 1} → statement M
+hex_digit_spec =
     tie.close
     (tie.spec
     (λ c. omega (arith, (digit c.before).0))
-    (λ c. ((rw (le-leb _ _ c.if1.true)), omega (arith, (digit c.before).0)))
-    (λ c. omega (arith, (digit c.before).2 c.if1.false))
-    (λ c. ((rw (lt-leb _ _ c.if1.false)), omega (arith, (digit c.before).1, (digit c.before).2 c.if1.false))))
+    (λ c. ((rw (le-leb _ _ c.if-x-le57.true)), omega (arith, (digit c.before).0)))
+    (λ c. omega (arith, (digit c.before).2 c.if-x-le57.false))
+    (λ c. ((rw (lt-leb _ _ c.if-x-le57.false)), omega (arith, (digit c.before).1, (digit c.before).2 c.if-x-le57.false))))

@@ -9,28 +9,28 @@ use Rattle.folds.specs.Tests.{and_false}
 use Rattle.text.proofs.hexadecimal.is_hex_digit.Statement.{statement}
 use Rattle.text.proofs.hexadecimal.is_hex_digit.Tie as tie
 
-returns-2 : tie.Need-returns-2
+returns-2 : tie.Need-returns-then-x-ge97
 returns-2 c =
     let x = c.before.before.args.x in
     let a : leb 48 x ≡ true = le-leb 48 x (omega arith) in
     let b : leb x 57 ≡ false = lt-leb x 57 (omega arith) in
-    rw (a, b, le-leb 97 x c.if3.true)
+    rw (a, b, le-leb 97 x c.if-x-ge97.true)
 
-returns-3 : tie.Need-returns-3
+returns-3 : tie.Need-returns-else-x-ge97
 returns-3 c =
     let x = c.before.before.args.x in
-    let letter : leb 97 x ≡ false = lt-leb 97 x c.if3.false in
+    let letter : leb 97 x ≡ false = lt-leb 97 x c.if-x-ge97.false in
     ⊎_elim
     (λ w.
     let high : leb x 57 ≡ false = w.1.left in
     rw (high, and_false (leb 48 x), letter))
     (λ w. rw (lt-leb 48 x w.left, letter))
-    c.before.if1.branch
+    c.before.if-x-ge48.branch
 
-pub is-hex-digit-spec : {M : Type 1} → statement M
-is-hex-digit-spec =
+pub is_hex_digit_spec : {M : Type 1} → statement M
+is_hex_digit_spec =
     tie.close
     (tie.spec
-    (λ c. rw (le-leb _ _ c.before.if1.true, c.if2.true))
+    (λ c. rw (le-leb _ _ c.before.if-x-ge48.true, c.if-x-le57.true))
     returns-2
     returns-3)

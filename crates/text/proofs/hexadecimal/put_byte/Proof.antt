@@ -18,12 +18,12 @@ returns c =
     let at = given.at in (
       refl,
       omega arith,
-      ap (λ (n : ℕ). set (set out at c.before.glyph-of.result) n c.glyph-of2.result) (add-one at)
-          ∙ ap₂ (λ (x y : ℕ). sets out at (x ∷ y ∷ [])) c.before.glyph-of.ensures c.glyph-of2.ensures,
+      ap (λ (n : ℕ). set (set out at c.before.glyph_of.result) n c.glyph_of-2.result) (add-one at)
+          ∙ ap₂ (λ (x y : ℕ). sets out at (x ∷ y ∷ [])) c.before.glyph_of.ensures c.glyph_of-2.ensures,
     )
 
-pub put-byte-spec : {M : Type 1} → statement M
-put-byte-spec =
+pub put_byte_spec : {M : Type 1} → statement M
+put_byte_spec =
     tie.close
     (found4 tie.spec (search rules)
     (λ c. simp length-set (omega arith))

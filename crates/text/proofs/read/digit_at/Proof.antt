@@ -4,11 +4,11 @@ use borrow.Author.Tests.{lt-ltb, le-ltb, le-leb, lt-leb}
 use Rattle.text.proofs.read.digit_at.Statement.{statement}
 use Rattle.text.proofs.read.digit_at.Tie as tie
 
-pub digit-at-spec : {M : Type 1} → statement M
-digit-at-spec =
+pub digit_at_spec : {M : Type 1} → statement M
+digit_at_spec =
     tie.close
     (tie.spec
-    (λ c. rw (le-ltb _ _ c.if1.true))
+    (λ c. rw (le-ltb _ _ c.if-b-i.true))
     (λ c. search rules)
-    (λ c. rw (lt-ltb _ _ c.before.before.if1.false, le-leb _ _ c.if2.true))
-    (λ c. rw (lt-ltb _ _ c.before.before.if1.false, lt-leb _ _ c.if2.false)))
+    (λ c. rw (lt-ltb _ _ c.before.before.if-b-i.false, le-leb _ _ c.if-x-ge48.true))
+    (λ c. rw (lt-ltb _ _ c.before.before.if-b-i.false, lt-leb _ _ c.if-x-ge48.false)))

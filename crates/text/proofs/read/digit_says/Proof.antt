@@ -5,11 +5,11 @@ use mathlib.Core.Path.{refl}
 use Rattle.text.proofs.read.digit_says.Statement.{statement}
 use Rattle.text.proofs.read.digit_says.Tie as tie
 
-pub digit-says-spec : {M : Type 1} → statement M
-digit-says-spec =
+pub digit_says_spec : {M : Type 1} → statement M
+digit_says_spec =
     tie.close
     (tie.spec
     (λ c. search rules)
     (λ c. search rules)
-    (λ c. omega (arith, c.before.shared-slice-known.given c.before.before.args.i))
-    (λ c. (refl, omega (arith, c.before.shared-slice-known.given c.before.before.args.i))))
+    (λ c. omega (arith, c.before.shared_slice_known-1.given c.before.before.args.i))
+    (λ c. (refl, omega (arith, c.before.shared_slice_known-1.given c.before.before.args.i))))

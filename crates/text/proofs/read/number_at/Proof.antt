@@ -3,7 +3,7 @@ use borrow.Author.Rules.{rules}
 use mathlib.Core.Path.{ap, ◌∙◌}
 use Rattle.rules.specs.Text.{is_decimal, decimal_at}
 use Rattle.text.specs.Decimals.{decimal_number}
-use Rattle.text.specs.Lines.{number-decimal}
+use Rattle.text.specs.Lines.{number_decimal}
 use Rattle.text.proofs.read.number_at.Statement.{statement}
 use Rattle.text.proofs.read.number_at.Tie as tie
 
@@ -12,10 +12,10 @@ returns c =
     let start = c.before.before.before in
     let given = start.args in
     let b = given.b.now in
-    let place = c.before.number-place.ensures in
-    decimal_number b c.before.number-place.result c.decimal-at.ensures
-    (ap (is_decimal b) place ∙ number-decimal b given.i given.m given.j start.requires.0 start.requires.1)
+    let place = c.before.number_place-place.ensures in
+    decimal_number b c.before.number_place-place.result c.decimal_at-x.ensures
+    (ap (is_decimal b) place ∙ number_decimal b given.i given.m given.j start.requires.0 start.requires.1)
     ∙ ap (decimal_at b) place
 
-pub number-at-spec : {M : Type 1} → statement M
-number-at-spec = tie.close (tie.spec (λ c κs. search rules) (λ c κs. search rules) returns)
+pub number_at_spec : {M : Type 1} → statement M
+number_at_spec = tie.close (tie.spec (λ c κs. search rules) (λ c κs. search rules) returns)

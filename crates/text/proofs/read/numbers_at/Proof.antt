@@ -14,72 +14,72 @@ use Rattle.text.specs.Lines.{number_stands, number_place-zero, behind_is, number
 use Rattle.text.proofs.read.numbers_at.Statement.{statement}
 use Rattle.text.proofs.read.numbers_at.Tie as tie
 
-abbrev invariant-loop : tie.invariant-loop
-invariant-loop b i m place₀ j₀ place j = (j ≤ m) × (place ≡ number_place b i j) × (all_below j (number_stands b i m) ≡ true)
+abbrev invariant-loop-j : tie.invariant-loop-j
+invariant-loop-j b i m place₀ j₀ place j = (j ≤ m) × (place ≡ number_place b i j) × (all_below j (number_stands b i m) ≡ true)
 
-abbrev decreases-loop : tie.decreases-loop
-decreases-loop b i m place₀ j₀ place j = m - j
+abbrev decreases-loop-j : tie.decreases-loop-j
+decreases-loop-j b i m place₀ j₀ place j = m - j
 
-abbrev start : tie.After-decimal-at invariant-loop decreases-loop → tie.Start invariant-loop decreases-loop
+abbrev start : tie.After-decimal_at-x invariant-loop-j decreases-loop-j → tie.Start invariant-loop-j decreases-loop-j
 start c = c.before.before.before.before
 
 -- the number that was read, and the test of it
-abbrev read : tie.After-byte-at invariant-loop decreases-loop → tie.After-decimal-at invariant-loop decreases-loop
+abbrev read : tie.After-byte_at invariant-loop-j decreases-loop-j → tie.After-decimal_at-x invariant-loop-j decreases-loop-j
 read c = c.before.before.before.before
 
-tested : (c : tie.After-byte-at invariant-loop decreases-loop)
-    → let given = (start (read c)).args in c.byte-at.result ≡ number_stands given.b.now given.i given.m (read c).before.before.loop.j
+tested : (c : tie.After-byte_at invariant-loop-j decreases-loop-j)
+    → let given = (start (read c)).args in c.byte_at.result ≡ number_stands given.b.now given.i given.m (read c).before.before.loop-j.j
 tested c =
     let given = (start (read c)).args in
-    let loop = (read c).before.before.loop in
-    c.byte-at.ensures
+    let loop = (read c).before.before.loop-j in
+    c.byte_at.ensures
     ∙ sym
-    (number_behind given.b.now given.i given.m loop.j loop.inv.1 (read c).decimal-at.ensures (not-false _ c.before.before.if1.false)
-    (behind_is loop.j given.m c.before.if2.branch (λ w. w.taken) (λ w. w.left)))
+    (number_behind given.b.now given.i given.m loop.j loop.inv.1 (read c).decimal_at-x.ensures (not-false _ c.before.before.if-not-x.false)
+    (behind_is loop.j given.m c.before.if-j-m.branch (λ w. w.taken) (λ w. w.left)))
 
-returns : tie.Need-returns invariant-loop decreases-loop
+returns : tie.Need-returns-then-not-x invariant-loop-j decreases-loop-j
 unfolding numbers_at
 returns c =
     let found = c.before.before in
     let given = (start found).args in
-    let loop = found.before.before.loop in
+    let loop = found.before.before.loop-j in
     sym
-    (all_below_not _ given.m loop.j found.before.loop-test.true
-    (number_none given.b.now given.i given.m loop.j loop.invariant.1 found.decimal-at.ensures (not-true _ c.if1.true)))
+    (all_below_not _ given.m loop.j found.before.loop-j-test.true
+    (number_none given.b.now given.i given.m loop.j loop.invariant.1 found.decimal_at-x.ensures (not-true _ c.if-not-x.true)))
 
-returns-2 : tie.Need-returns-2 invariant-loop decreases-loop
+returns-2 : tie.Need-returns-then-not-byte_at invariant-loop-j decreases-loop-j
 unfolding numbers_at
 returns-2 c =
     let turn = (read c.before).before in
-    sym (all_below_not _ _ _ turn.loop-test.taken (failed (tested c.before) c.if3.true))
+    sym (all_below_not _ _ _ turn.loop-j-test.taken (failed (tested c.before) c.if-not-byte_at.true))
 
-add-place : tie.Need-overflow-add-place invariant-loop decreases-loop
+add-place : tie.Need-overflow_add-place invariant-loop-j decreases-loop-j
 add-place c =
     let test = c.before.before in
-    omega (arith, byte_within (start (read test)).args.b.now (read test).decimal-at.result.end test.before.if2.behind (passed test.byte-at.ensures c.before.if3.false))
+    omega (arith, byte_within (start (read test)).args.b.now (read test).decimal_at-x.result.end test.before.if-j-m.behind (passed test.byte_at.ensures c.before.if-not-byte_at.false))
 
-loop-again : tie.Need-loop-preserved invariant-loop decreases-loop
+loop-again : tie.Need-loop-j-preserved invariant-loop-j decreases-loop-j
 loop-again c =
     let test = c.before.before in
     let given = (start (read test)).args in
-    let loop = (read test).before.before.loop in (
+    let loop = (read test).before.before.loop-j in (
       omega arith,
-      number_next given.b.now given.i given.m loop.j loop.inv.1 (read test).decimal-at.ensures,
-      all_below_more _ loop.j loop.inv.2 (passed (tested test) c.before.if3.false),
+      number_next given.b.now given.i given.m loop.j loop.inv.1 (read test).decimal_at-x.ensures,
+      all_below_more _ loop.j loop.inv.2 (passed (tested test) c.before.if-not-byte_at.false),
     )
 
-returns-3 : tie.Need-returns-3 invariant-loop decreases-loop
+returns-3 : tie.Need-returns invariant-loop-j decreases-loop-j
 unfolding numbers_at
 returns-3 c =
-    let all : c.before.loop.j ≡ c.before.before.before.args.m = omega arith in
-    sym (rw all at c.before.loop.invariant.2)
+    let all : c.before.loop-j.j ≡ c.before.before.before.args.m = omega arith in
+    sym (rw all at c.before.loop-j.invariant.2)
 
-pub numbers-at-spec : {M : Type 1} → statement M
-numbers-at-spec =
+pub numbers_at_spec : {M : Type 1} → statement M
+numbers_at_spec =
     tie.close
     (tie.spec
-    invariant-loop
-    decreases-loop
+    invariant-loop-j
+    decreases-loop-j
     (λ c. (omega arith, sym (number_place-zero _ _), all_below-zero _))
     (λ c κs. search rules)
     returns

@@ -14,55 +14,55 @@ use Rattle.text.specs.Decimals.{byte_there, byte_behind}
 use Rattle.text.proofs.read.word_at.Statement.{statement}
 use Rattle.text.proofs.read.word_at.Tie as tie
 
-abbrev invariant-loop : tie.invariant-loop
-invariant-loop b i w j₀ j = (j ≤ length w) × (all_below j (λ k. byte_at b (i + k) (get_or w k 0)) ≡ true)
+abbrev invariant-loop-j : tie.invariant-loop-j
+invariant-loop-j b i w j₀ j = (j ≤ length w) × (all_below j (λ k. byte_at b (i + k) (get_or w k 0)) ≡ true)
 
-abbrev decreases-loop : tie.decreases-loop
-decreases-loop b i w j₀ j = length w - j
+abbrev decreases-loop-j : tie.decreases-loop-j
+decreases-loop-j b i w j₀ j = length w - j
 
-abbrev start : tie.At-loop invariant-loop decreases-loop → tie.Start invariant-loop decreases-loop
+abbrev start : tie.At-loop-j invariant-loop-j decreases-loop-j → tie.Start invariant-loop-j decreases-loop-j
 start c = c.before.before.before.before.before
 
 -- byte j of the word is tested where it is to stand
-byte : (c : tie.In-loop invariant-loop decreases-loop)
+byte : (c : tie.In-loop-j invariant-loop-j decreases-loop-j)
     → let given = (start c.before).args in
-    let j = c.before.loop.j in
+    let j = c.before.loop-j.j in
     byte_at given.b.now (given.i + j) (get_or given.w.now j 0) ≡ eqb (get_or given.b.now (given.i + j) 0) (get_or given.w.now j 0)
 byte c =
     let given = (start c.before).args in
-    let j = c.before.loop.j in
+    let j = c.before.loop-j.j in
     byte_there given.b.now (given.i + j) (get_or given.w.now j 0) (omega arith)
 
-returns : tie.Need-returns invariant-loop decreases-loop
+returns : tie.Need-returns-then-left_from-w invariant-loop-j decreases-loop-j
 unfolding word_at
 returns c =
     let given = c.before.before.before.before.args in
     let behind = length given.b.now - given.i in
     sym (all_below_not _ _ behind (omega arith) (byte_behind given.b.now (given.i + behind) (get_or given.w.now behind 0) (omega arith)))
 
-returns-2 : tie.Need-returns-2 invariant-loop decreases-loop
+returns-2 : tie.Need-returns-then-b-i invariant-loop-j decreases-loop-j
 unfolding word_at
 returns-2 c =
     let turn = c.before.before.before in
-    sym (all_below_not _ _ _ turn.loop-test.true (byte turn ∙ ne_eqb _ _ c.if2.true))
+    sym (all_below_not _ _ _ turn.loop-j-test.true (byte turn ∙ ne_eqb _ _ c.if-b-i.true))
 
-loop-again : tie.Need-loop-preserved invariant-loop decreases-loop
+loop-again : tie.Need-loop-j-preserved invariant-loop-j decreases-loop-j
 loop-again c =
     let turn = c.before.before.before in
-    (omega arith, all_below_more _ _ turn.before.loop.invariant.1 (byte turn ∙ eq-eqb _ _ c.if2.false))
+    (omega arith, all_below_more _ _ turn.before.loop-j.invariant.1 (byte turn ∙ eq-eqb _ _ c.if-b-i.false))
 
-returns-3 : tie.Need-returns-3 invariant-loop decreases-loop
+returns-3 : tie.Need-returns invariant-loop-j decreases-loop-j
 unfolding word_at
 returns-3 c =
-    let all : c.before.loop.j ≡ length (start c.before).args.w.now = omega arith in
-    sym (rw all at c.before.loop.invariant.1)
+    let all : c.before.loop-j.j ≡ length (start c.before).args.w.now = omega arith in
+    sym (rw all at c.before.loop-j.invariant.1)
 
-pub word-at-spec : {M : Type 1} → statement M
-word-at-spec =
+pub word_at_spec : {M : Type 1} → statement M
+word_at_spec =
     tie.close
     (tie.spec
-    invariant-loop
-    decreases-loop
+    invariant-loop-j
+    decreases-loop-j
     (λ c κs. search rules)
     returns
     (λ c. (omega arith, all_below-zero _))

@@ -11,43 +11,43 @@ use Rattle.text.specs.Decimals.{piece_of, power_next, power_positive, digit_put,
 use Rattle.text.proofs.write.put_decimal.Statement.{statement}
 use Rattle.text.proofs.write.put_decimal.Tie as tie
 
-abbrev invariant-loop : tie.invariant-loop
-invariant-loop out₀ at x next₀ power₀ j₀ out next power j = PutRuns (piece_of x) 1 4 at out₀ out next j × (power ≡ 10 ^ (4 - j))
+abbrev invariant-loop-j : tie.invariant-loop-j
+invariant-loop-j out₀ at x next₀ power₀ j₀ out next power j = PutRuns (piece_of x) 1 4 at out₀ out next j × (power ≡ 10 ^ (4 - j))
 
-abbrev decreases-loop : tie.decreases-loop
-decreases-loop out₀ at x next₀ power₀ j₀ out next power j = 4 - j
+abbrev decreases-loop-j : tie.decreases-loop-j
+decreases-loop-j out₀ at x next₀ power₀ j₀ out next power j = 4 - j
 
 -- a digit
 digit : (y : ℕ) → y % 10 < 10
 digit y = mod-lt y {m = 10} (omega arith)
 
-loop-again : tie.Need-loop-preserved invariant-loop decreases-loop
+loop-again : tie.Need-loop-j-preserved invariant-loop-j decreases-loop-j
 loop-again c =
-    let loop = c.before.before.loop in
+    let loop = c.before.before.loop-j in
     let inv = loop.invariant in (
       runs_more inv.0 (omega arith)
           (⊎_elim
           (λ w. digit_put _ loop.j loop.next loop.out inv.1 w.0.taken w.1 w.2)
           (λ w. digit_skip _ loop.j loop.next loop.out inv.1 w.0.left w.1 w.2)
-          c.if1.branch),
+          c.if-power-x.branch),
       power_next loop.j (omega arith) inv.1,
     )
 
-pub put-decimal-spec : {M : Type 1} → statement M
-put-decimal-spec =
+pub put_decimal_spec : {M : Type 1} → statement M
+put_decimal_spec =
     tie.close
     (tie.spec
-    invariant-loop
-    decreases-loop
+    invariant-loop-j
+    decreases-loop-j
     (λ c. (runs_none _ 1 4 _ _, refl))
-    (λ c. omega (arith, power_positive (4 - c.before.before.loop.j)))
-    (λ c. omega (arith, digit (c.before.before.before.args.x / c.before.before.loop.power)))
-    (λ c. omega (arith, digit (c.before.before.before.args.x / c.before.before.loop.power)))
+    (λ c. omega (arith, power_positive (4 - c.before.before.loop-j.j)))
+    (λ c. omega (arith, digit (c.before.before.before.args.x / c.before.before.loop-j.power)))
+    (λ c. omega (arith, digit (c.before.before.before.args.x / c.before.before.loop-j.power)))
     (λ c. omega arith) (λ c. omega arith) (λ c. omega arith) (λ c. omega arith)
     loop-again
     (λ c. omega (arith, digit c.before.before.args.x))
     (λ c. omega (arith, digit c.before.before.args.x))
     (λ c. omega arith)
     (λ c. omega arith)
-    (λ c. simp length-set c.before.loop.invariant.0.same)
-    (λ c. digits_all _ c.before.loop.invariant.0 (omega arith)))
+    (λ c. simp length-set c.before.loop-j.invariant.0.same)
+    (λ c. digits_all _ c.before.loop-j.invariant.0 (omega arith)))
