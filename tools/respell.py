@@ -16,7 +16,8 @@ SIGNATURE = re.compile(r"^ *(?:(?:pub|abbrev|unfoldable) )*([^\s(){}\[\],;\":]+)
 TYPE = re.compile(r"^(?:abbrev |unfoldable )?(?:pub )?(?:record|data|ruleset) ([^\s(){}]+)")
 USED = re.compile(r"use ([A-Za-z][\w.]*)\.\{([^}]*)\}")
 ALIAS = re.compile(r"use Rattle\.\w+\.(?:specs\.(?!declared|contracts)|proofs\.[A-Z])(?:[\w.]*\.)?(\w+)(?: as ([^\s;]+))?(?=[\s;]|$)")
-STAYS = re.compile(r'"(?:[^"\\\n]|\\.)*"|(?<![\w'-])use [A-Za-z][\w.+]*')
+STAYS = r'''"(?:[^"\\]|\\.|\\\n)*"|(?<![\w'-])use [A-Za-z][\w.+]*'''
+QUOTED = re.compile(r"`[^`\n]*`")
 FIELD = re.compile(r"^  (?:pub )?([^\s(){}\[\],;\":]+) : ")
 # what std calls its own words, for the dash of a name that joins two
 STD = "length set sets take drop get_or map sum append add mul sub mod pow div suc zero replicate gather get fold".split()
@@ -101,9 +102,9 @@ def renames():
     return new
 
 
-def turned(text, new, fields):
-    """The path of an import stays. Behind a dot only a field of ours is turned, or a name of a module of ours: the rest are names that the
-    prover makes."""
+def turned(text, new, fields, comment):
+    """The path of an import stays, and so does prose but for what stands in backticks. Behind a dot only a field of ours is turned, or a name
+    of a module of ours: the rest are names that the prover makes."""
     aliases = {m.group(2) or m.group(1) for m in ALIAS.finditer(text)}
 
     def word(m):
@@ -114,14 +115,16 @@ def turned(text, new, fields):
                 return m.group(0)
         return new.get(m.group(0), m.group(0))
 
-    def part(s):
-        made, at = [], 0
-        for m in STAYS.finditer(s):
-            made += [WORD.sub(word, s[at:m.start()]), m.group(0)]
-            at = m.end()
-        return "".join(made) + WORD.sub(word, s[at:])
+    def part(m):
+        if m.group(0).startswith(comment):
+            return QUOTED.sub(lambda q: WORD.sub(word, q.group(0)), m.group(0))
+        return m.group(0)
 
-    return part(text)
+    made, at = [], 0
+    for m in re.finditer(re.escape(comment) + r"[^\n]*|" + STAYS, text):
+        made += [WORD.sub(word, text[at:m.start()]), part(m)]
+        at = m.end()
+    return "".join(made) + WORD.sub(word, text[at:])
 
 
 def main():
@@ -141,7 +144,9 @@ def main():
             if here[w] in words:
                 clashes.append(f"{file.relative_to(ROOT)}: {w} becomes {here[w]}, which stands there")
         if "--clashes" not in sys.argv:
-            file.write_text(turned(text, here, fields))
+            if file.suffix == ".rt":  # a name of src/ may be spelled as a lemma of ours
+                here = {w: to for w, to in here.items() if re.search(r"[a-z0-9'′][A-Z]|-", w)}
+            file.write_text(turned(text, here, fields, "//" if file.suffix == ".rt" else "--"))
     print("\n".join(clashes))
 
 

@@ -1,4 +1,4 @@
-// The calls of a box: set_up_lem, deal, recovery command, delivery. The host may hand over any numbers, any bytes and any record:
+// The calls of a box: set-up, deal, recovery command, delivery. The host may hand over any numbers, any bytes and any record:
 // every call has a numbered answer, and none asks for anything. The record goes in and comes back by value.
 #![tactic(auto)]
 
@@ -6,7 +6,7 @@ ghost use Rattle.rules.specs.Answers.{SetsUp, Deals, Recovers, Delivers};
 
 use rules::{Outcome, Record, SetUp};
 
-// Refusals 11, 12. A refused set_up_lem gives the all-zero record.
+// Refusals 11, 12. A refused set-up gives the all-zero record.
 pub fn set_up(u: SetUp) -> Outcome
     ensures { SetsUp u result }
 {

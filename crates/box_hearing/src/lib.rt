@@ -40,7 +40,7 @@ fn exponents_keep(u: SetUp, bytes: &[u8]) -> bool
         return checking::pair_below(group.q, pair);
     }
     let four = message_reading::read_four(bytes, u);
-    checking::four_below_lem(group.q, four)
+    checking::four_below(group.q, four)
 }
 
 // The share check against the completed matrix.

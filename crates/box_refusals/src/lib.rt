@@ -16,7 +16,7 @@ pub fn set_up(u: SetUp) -> u8
     if !session_numbers::group_keeps(u) {
         return 11;
     }
-    if !session_numbers::numbers_keep_lem(u) {
+    if !session_numbers::numbers_keep(u) {
         return 12;
     }
     0

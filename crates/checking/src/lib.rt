@@ -85,7 +85,7 @@ pub fn polynomials_below(q: u16, k: usize, all: Polynomials) -> bool
 }
 
 // Refusal 9 holds of no number of an echo or ready.
-pub fn four_below_lem(q: u16, four: Four) -> bool
+pub fn four_below(q: u16, four: Four) -> bool
     ensures { result ≡ four_below q four }
 {
     let alpha = four.alpha;

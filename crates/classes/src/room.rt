@@ -127,7 +127,7 @@ fn moved(room: Room, m: Move, u: SetUp, secret: u32, coins: &[u16]) -> Room
     after
 }
 
-// A class from the first move of its script to the last. The set_up_lem numbers are those of box 0, which is refused and leaves the all-zero
+// A class from the first move of its script to the last. The set-up numbers are those of box 0, which is refused and leaves the all-zero
 // record.
 pub fn play(u: SetUp, secret: u32, coins: &[u16], script: &[u8])
     requires { length script.now ≤ 1000 }

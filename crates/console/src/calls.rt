@@ -23,7 +23,7 @@ pub struct Turn {
     pub ends: bool,
 }
 
-// No box: the all-zero record, as a refused set_up_lem leaves it.
+// No box: the all-zero record, as a refused set-up leaves it.
 pub fn new_bench() -> Bench {
     let nobody = SetUp {
         group: 0,

@@ -19,7 +19,7 @@ use Rattle.console_page.specs.Numerals.{two_text}
 
 -- ---- its k
 
--- a set_up_lem with this k, which is all that refusal 2 looks at
+-- a set-up with this k, which is all that refusal 2 looks at
 abbrev pub of_width : ℕ → SetUp
 of_width k = record { group = 0; n = 0; t = 0; k = k; i = 0; d = 0; session = 0 }
 

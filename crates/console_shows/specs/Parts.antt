@@ -23,7 +23,7 @@ use Rattle.text.specs.Puts.{Puts, PutsWord, puts_word, puts_word_room, puts_then
 unfoldable pub five_digits : ℕ → List ℕ
 five_digits x = gather 4 (λ j. digit_of x (10 ^ (4 - j)) ∷ []) ++ (digit_of x 1 ∷ [])
 
--- x of up to ten digits: a set_up_lem number of any record, sound or not
+-- x of up to ten digits: a set-up number of any record, sound or not
 unfoldable pub wide : ℕ → List ℕ
 wide x = pick (ltb x 100000) (decimal x) (decimal (x / 100000) ++ five_digits x)
 

@@ -1,6 +1,6 @@
 -- What `show` says: all that a record holds, but for the points of its places, which `Points` has.
 --
--- In order: a line each for the set_up_lem numbers, for dealing and for who is heard; the places in use; completion, the command and the
+-- In order: a line each for the set-up numbers, for dealing and for who is heard; the places in use; completion, the command and the
 -- recovery shares; the whole; a law of the writers. Every record has its lines. Two of them no sound record has: `completed place S
 -- share none`, where no pair is kept with the completed matrix, and `completed no place`, where there is no such matrix.
 -- Assumes nothing.

@@ -90,8 +90,8 @@ pub fn put_answer(page: &mut [u8], at: usize, n: u32) -> usize
         answer 8: a matrix entry is 0, is p or more, or is not in the group; the message is dropped, but its sender is heard for its tag from now on\n\
         answer 9: an exponent is q or more; the message is dropped, but its sender is heard for its tag from now on, unless it is a recovery share\n\
         answer 10: the check of its kind fails; the message is dropped, but its sender is heard for its tag from now on, unless it is a recovery share\n\
-        answer 11: a set_up_lem with a group that is not 1 or 2; there is no box now\n\
-        answer 12: a set_up_lem with a number that breaks its rule, and there is no box now; or another call on a record that is not sound, which stays\n\
+        answer 11: a set-up with a group that is not 1 or 2; there is no box now\n\
+        answer 12: a set-up with a number that breaks its rule, and there is no box now; or another call on a record that is not sound, which stays\n\
         answer 13: a deal by another box than the dealer or again, or a recovery command before completion or again; nothing is done\n\
         answer 14: the secret or a coin is q or more, or the coins are not 2 k k - 1 in number; nothing is done and the record is as it was\n\
         answer 15: the lent buffer has fewer than 2048 bytes; nothing is done and the record is as it was\n\

@@ -46,7 +46,7 @@ fn put_wide(page: &mut [u8], at: usize, x: u32) -> usize
 }
 
 // How many of the rows, the columns or the boxes of an array are in use.
-pub fn in_use_lem(x: u32, most: u32) -> usize
+pub fn in_use(x: u32, most: u32) -> usize
     ensures { (result ≡ least x most) × (result ≤ most) }
 {
     if x <= most {

@@ -10,7 +10,7 @@ ghost use Rattle.console_shows.specs.Show.{
   place_lines,
 };
 
-use crate::parts::{in_use_lem, put_numbered};
+use crate::parts::{in_use, put_numbered};
 use rules::{Element, SetUp, Slot};
 use text::write::put_word;
 
@@ -33,7 +33,7 @@ fn put_matrix(page: &mut [u8], at: usize, k: u32, c: [[Element; 8]; 8]) -> usize
     requires { at + 384 ≤ length page.old }
     ensures { Puts page.old at (matrix_text k c) 384 result page.new }
 {
-    let width = in_use_lem(k, 8);
+    let width = in_use(k, 8);
     let mut next = at;
     let mut j: usize = 0;
     while j < width {

@@ -10,7 +10,7 @@ ghost use Rattle.console_shows.specs.Points.{
   points_lines,
 };
 
-use crate::parts::{in_use_lem, put_either, put_numbered};
+use crate::parts::{in_use, put_either, put_numbered};
 use rules::{Four, Place, Point, Record, SetUp, Slot};
 use text::write::{put_decimal, put_word};
 
@@ -70,7 +70,7 @@ fn put_point_lines(page: &mut [u8], at: usize, n: u32, slot: Slot) -> usize
     requires { at + 410 ≤ length page.old }
     ensures { Puts page.old at (point_lines n slot) 410 result page.new }
 {
-    let boxes = in_use_lem(n, 10);
+    let boxes = in_use(n, 10);
     let mut next = at;
     let mut m: usize = 0;
     while m < boxes {

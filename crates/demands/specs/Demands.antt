@@ -124,7 +124,7 @@ module _ (u : SetUp) (taken : (set_up u).answer.no ≡ 0) (cs : List Call) where
   pub every_byte_sent : (c : Call) → Sends u cs c (doing (after u cs) c).outcome.answer.sent (wrote (doing (after u cs) c))
   every_byte_sent = Bytes.every_byte u taken cs
 
-  -- its record is sound, and has the numbers of its set_up_lem: the box never meets 12
+  -- its record is sound, and has the numbers of its set-up: the box never meets 12
   pub stays_sound : (sound (after u cs) ≡ true) × Shaped (after u cs) × ((after u cs).setup ≡ u)
   stays_sound = Lives.life_sound u taken cs
 

@@ -1,4 +1,4 @@
--- The life of a box that keeps the rules, whatever it is told and sent: demand 2 over histories from set_up_lem.
+-- The life of a box that keeps the rules, whatever it is told and sent: demand 2 over histories from set-up.
 --
 -- In the modules below: what a box holds for a matrix, as one slot (`Slots`, `Replaced`); the steps of checked messages (`Stepped`,
 -- `Took`); any call taken apart (`Turns`, `Deliveries`), and seen from one matrix (`Seen`); a life from its beginning (`Born`), and by
@@ -64,7 +64,7 @@ use Bytes.{every_byte}
 use Completed.{forced, done-kept, share-kept, completion-on, matrix-on, share-on}
 use Recovered.{shares-are, recovered-is, share-pass, report-open}
 
--- ---- the statements, of a box that set_up_lem accepted and of any calls
+-- ---- the statements, of a box that set-up accepted and of any calls
 
 module _ (u : SetUp) (taken : (set_up u).answer.no ≡ 0) (cs : List Call) where
   pub life_sound : (sound (after u cs) ≡ true) × Shaped (after u cs) × ((after u cs).setup ≡ u)

@@ -1,4 +1,4 @@
--- The numbers that the whole session shares, under a box's own number: each box is taken at set_up_lem; and the bytes of a message go by the
+-- The numbers that the whole session shares, under a box's own number: each box is taken at set-up; and the bytes of a message go by the
 -- shared ones, not by the number of the box that writes or reads it, and by the first k rows and columns of its matrix.
 --
 -- In order: each box is taken; one message; a message to each box.

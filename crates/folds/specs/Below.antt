@@ -100,7 +100,7 @@ module _ (p : ℕ → Bool) where
   all_below_same q zero h = refl
   all_below_same q (suc n) h = ap₂ ◌and◌ (h n (omega arith)) (all_below_same q n (λ i l. h i (omega arith)))
 
-  -- ---- any_below
+  -- ---- anyBelow
 
   pub any_below-zero : any_below 0 p ≡ false
   unfolding any_below
@@ -134,7 +134,7 @@ module _ (p : ℕ → Bool) where
   any_below_none zero h = refl
   any_below_none (suc n) h = rw (h n (omega arith)) (any_below_none n (λ i l. h i (omega arith)))
 
-  -- ---- first_from
+  -- ---- firstFrom
 
   pub first_from_skip : (n i : ℕ) → i < n → p i ≡ false → first_from (n - i) i p ≡ first_from (n - (i + 1)) (i + 1) p
   unfolding first_from
@@ -190,7 +190,7 @@ module _ (p : ℕ → Bool) where
   first_from_same q h zero i = refl
   first_from_same q h (suc n) i = ap₂ (λ b j. pick b i j) (h i) (first_from_same q h n (i + 1))
 
-  -- ---- count_below
+  -- ---- countBelow
 
   pub count_below-zero : count_below 0 p ≡ 0
   unfolding count_below
@@ -309,7 +309,7 @@ module _ (p : ℕ → Bool) where
   count_below-sum (suc n) = ap (λ t. t + pick (p n) 1 0) (count_below-sum n)
 
 module _ (f : ℕ → ℕ) where
-  -- ---- sum_below, prod_below
+  -- ---- sumBelow, prodBelow
 
   pub sum_below-zero : sum_below 0 f ≡ 0
   unfolding sum_below
@@ -338,7 +338,7 @@ module _ (f : ℕ → ℕ) where
   prod_below_same g (suc n) h = ap₂ ◌*◌ (prod_below_same g n (λ i l. h i (omega arith))) (h n (omega arith))
 
 module _ {A : Type 0} (f : ℕ → A → A) (a : A) where
-  -- ---- fold_below
+  -- ---- foldBelow
 
   pub fold_below-zero : fold_below 0 f a ≡ a
   unfolding fold_below

@@ -79,7 +79,7 @@ holding u a b heard dealt completion commanded shares recovered =
 abbrev box_2 : SetUp
 box_2 = record { group = 1; n = 4; t = 1; k = 2; i = 2; d = 1; session = 7 }
 
--- nothing but these set_up_lem numbers, and these heard for tag 1
+-- nothing but these set-up numbers, and these heard for tag 1
 abbrev new : SetUp → Marks → Record
 new u ears = holding u zero_slot zero_slot (ears ∷ nobody ∷ nobody ∷ nobody ∷ []) false NotYet false (replicate 10 nothing) nothing
 

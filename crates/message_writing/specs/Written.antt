@@ -38,7 +38,7 @@ pub record Writes (bytes out₀ out : List ℕ) (count : ℕ) : Type 0 where
   pub counted : count ≡ length bytes
   pub front : out ≡ written bytes out₀
 
--- the set_up_lem numbers have room in a message, and a message to each box has in the lent buffer
+-- the set-up numbers have room in a message, and a message to each box has in the lent buffer
 pub record CanSend (u : SetUp) (out : List ℕ) : Type 0 where
   pub boxes : u.n ≤ 10
   pub fits : SetUpFits u

@@ -16,7 +16,7 @@ fn point_below(q: u16, place: Place) -> bool
     let point = place.point;
     match point {
         Point::Silent => true,
-        Point::Held(four) => checking::four_below_lem(q, four),
+        Point::Held(four) => checking::four_below(q, four),
     }
 }
 

@@ -16,7 +16,7 @@ pub fn is_sound(x: Record) -> bool
     if !session_numbers::group_keeps(u) {
         return false;
     }
-    if !session_numbers::numbers_keep_lem(u) {
+    if !session_numbers::numbers_keep(u) {
         return false;
     }
     let group = session_numbers::group_of(u);

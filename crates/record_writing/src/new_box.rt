@@ -1,4 +1,4 @@
-// The record of a new box, and the all-zero record of a refused set_up_lem.
+// The record of a new box, and the all-zero record of a refused set-up.
 ghost use Rattle.std.specs.Prelude.{◌≡◌};
 ghost use Rattle.rules.specs.Record.{zero_slot, new_record, zero_record};
 
@@ -27,7 +27,7 @@ fn zero_slot() -> Slot
     }
 }
 
-// With these set_up_lem numbers, whatever they are.
+// With these set-up numbers, whatever they are.
 pub fn new_record(u: SetUp) -> Record
     ensures { result ≡ new_record u }
 {

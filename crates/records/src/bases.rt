@@ -2,7 +2,7 @@
 use crate::{changes, saying};
 use rules::Record;
 
-// No box: all zero, as a refused set_up_lem leaves it; where no numbers are said they are 0.
+// No box: all zero, as a refused set-up leaves it; where no numbers are said they are 0.
 pub fn zero() -> Record {
     let o = box_calls::set_up(changes::set_up(saying::change_in(b"")));
     o.next

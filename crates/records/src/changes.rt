@@ -1,6 +1,6 @@
 // A record with one part anew, whatever the rules say. Places for matrices have numbers from 0, boxes and tags from 1, entries from 0.
 //
-//     numbers G N T K I D S     the set_up_lem numbers
+//     numbers G N T K I D S     the set-up numbers
 //     heard TAG BOX BOX ..      these boxes alone are heard for the tag
 //     share BOX [A B]           the box's recovery share; without numbers it is absent
 //     recovered [A B]           the recovered pair, likewise

@@ -93,7 +93,7 @@ outcome_of n x after = pick (eqb n 0) (accepted x) (refused n after)
 unfoldable pub answered : ℕ → Step → Record → List ℕ → Done
 answered n x after buffer = done (outcome_of n x after) (pick (eqb n 0) (written x.bytes buffer) buffer)
 
--- ---- set_up_lem: "Order: set-up 11, 12."
+-- ---- set-up: "Order: set-up 11, 12."
 
 unfoldable pub set_up_rows : SetUp → List Refusal
 set_up_rows u =
@@ -107,7 +107,7 @@ set_up_rows u =
 unfoldable pub set_up : SetUp → Outcome
 set_up u = outcome_of (first_of (set_up_rows u)) (quiet (new_record u)) zero_record
 
--- the promise of set_up_lem
+-- the promise of set-up
 abbrev pub SetsUp : SetUp → Outcome → Type 0
 SetsUp u o = o ≡ set_up u
 

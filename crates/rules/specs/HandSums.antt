@@ -20,7 +20,7 @@ use Rattle.rules.specs.Steps.{with_shares, share_points, through, echo_four, pai
 use Rattle.rules.specs.Answers.{set_up}
 use Rattle.rules.specs.Computed.{computed}
 
--- the set_up_lem numbers of a class of these sizes: box 1, dealt by box 1, session 7
+-- the set-up numbers of a class of these sizes: box 1, dealt by box 1, session 7
 abbrev pub sized : ℕ → ℕ → ℕ → SetUp
 sized n t k = record { group = 1; n = n; t = t; k = k; i = 1; d = 1; session = 7 }
 

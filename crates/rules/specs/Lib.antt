@@ -1,6 +1,6 @@
 -- Document 01 as definitions, in its order and its words: what a reader must believe stands in the first nine files, and
 -- only there. Then the sums done by hand, useless boxes, and cases that pin a sentence with a number, a text or an order in it:
--- sheets, bytes of messages, the records of a set_up_lem, numbers on their boundaries. Then the laws that follow.
+-- sheets, bytes of messages, the records of a set-up, numbers on their boundaries. Then the laws that follow.
 pub mod Numbers
 pub mod Matrices
 pub mod Messages

@@ -1,4 +1,4 @@
--- Document 01, "Numbers": what its sums by hand leave open. Sums in the second group, the rules of the set_up_lem numbers on their
+-- Document 01, "Numbers": what its sums by hand leave open. Sums in the second group, the rules of the set-up numbers on their
 -- boundaries, and the echo quorum where it is rounded.
 --
 -- In order: a deal in group 2; rows of a table; set-ups; what is computed of them.

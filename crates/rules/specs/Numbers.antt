@@ -1,4 +1,4 @@
--- Document 01, "Numbers": the groups, the rules of the set_up_lem numbers, the echo quorum.
+-- Document 01, "Numbers": the groups, the rules of the set-up numbers, the echo quorum.
 --
 -- A test that a rule is kept is a `Bool` that code can compute; `eqb`, `leb`, `ltb` are =, ≤, <.
 -- Assumes nothing.
@@ -51,7 +51,7 @@ row_keeps G =
     and has_order G G.h
     and eqb (G.g.0 ^ logarithm G % G.p) G.h.0
 
--- ---- the set_up_lem numbers
+-- ---- the set-up numbers
 
 -- a group of the table
 unfoldable pub group_keeps : SetUp → Bool

@@ -13,7 +13,7 @@ use Rattle.rules.specs.Computed.{computed}
 abbrev PrintsSheet : String → String → Type 0
 PrintsSheet sheet lines = printed (text sheet) ≡ text lines
 
--- the sheet of document 01 with these lines for its PrintsBoxes, and with this PrintsMatrix
+-- the sheet of document 01 with these lines for its boxes, and with this matrix
 abbrev PrintsBoxes : String → String → Type 0
 PrintsBoxes lines out = printed (text "sheet 1 4 1 2\n4 13 8 12\n" ++ text lines) ≡ text out
 
@@ -74,7 +74,7 @@ sheet_lines_lem =
 -- ---- the form
 
 pub record SheetForm : Type 0 where
-  -- "a first line of another form, "IsBadSheet sheet"": the word, a number too few or too many, a space or a newline
+  -- "a first line of another form, "bad sheet"": the word, a number too few or too many, a space or a newline
   pub first_line : IsBadSheet ""
       × IsBadSheet "shee 1 4 1 2\n" × IsBadSheet "Sheet 1 4 1 2\n" × IsBadSheet "sheet1 4 1 2\n"
       × IsBadSheet "sheet 3 4 1\n" × IsBadSheet "sheet 3 4 1 2 2\n"
@@ -111,7 +111,7 @@ sheet_form =
 -- ---- the order of the tests: "Tests in order, each printing only its line"
 
 pub record SheetOrder : Type 0 where
-  -- "input over 4,096 bytes .., "IsBadSheet sheet"; group, "refused 11""
+  -- "input over 4,096 bytes .., "bad sheet"; group, "refused 11""
   pub bytes_4096 : printed (long 4082) ≡ text "refused 11\n"
   pub bytes_4097 : printed (long 4083) ≡ text "bad sheet\n"
   -- the first line before the group, the group before n, t, k
@@ -119,7 +119,7 @@ pub record SheetOrder : Type 0 where
   -- "n, t, k, "refused 12"", before the rest: n 11, t 0, k = t, n - 2t < k; n 10 and k 8 are taken
   pub sizes_third : PrintsSheet "sheet 1 11 1 2\nx\n" "refused 12\n" × PrintsSheet "sheet 1 4 0 2\n" "refused 12\n" × PrintsSheet "sheet 1 7 2 2\n" "refused 12\n"
       × PrintsSheet "sheet 2 4 1 3\n" "refused 12\n" × IsBadSheet "sheet 1 10 1 8\n"
-  -- "the rest of another form .., "IsBadSheet sheet"", before "matrix, "refused 8""; and this before any line of a box
+  -- "the rest of another form .., "bad sheet"", before "matrix, "refused 8""; and this before any line of a box
   pub rest_fourth : IsBadSheet "sheet 1 4 1 2\n0 13 8 12\n1 7 8\n2 silent\n3 0 0\n5 2 1\n"
   pub matrix_fifth : PrintsSheet "sheet 1 4 1 2\n0 13 8 12\n1 11 8\n2 silent\n3 0 0\n4 2 1\n" "refused 8\n"
       × PrintsMatrix "4 13 8 23" "refused 8\n" × PrintsMatrix "4 22 8 12" "refused 8\n" × PrintsMatrix "4 13 24 12" "refused 8\n"

@@ -1,6 +1,6 @@
 -- Document 01: "A refused set-up gives the all-zero record", and a new box starts from nothing: both records by literal zeros.
 --
--- In order: the parts of a record, zero by zero; what a set_up_lem answers and leaves.
+-- In order: the parts of a record, zero by zero; what a set-up answers and leaves.
 -- Assumes nothing.
 use Rattle.std.specs.Prelude.{◌≡◌, refl, false, List, [], ◌∷◌, ℕ}
 use Rattle.rules.specs.declared.SetUp.{SetUp}
@@ -50,7 +50,7 @@ is_silent_lem = record { point = Silent }
 abbrev zeros : Slot
 zeros = record { used = false; rows = eight zero_row; places = ten is_silent_lem; echoed = no_marks_lem; readied = no_marks_lem; pair = no_pair_lem }
 
--- nothing but these set_up_lem numbers
+-- nothing but these set-up numbers
 abbrev nothing_but : SetUp → Record
 nothing_but u =
     record {
@@ -65,7 +65,7 @@ nothing_but u =
 abbrev no_numbers : SetUp
 no_numbers = record { group = 0; n = 0; t = 0; k = 0; i = 0; d = 0; session = 0 }
 
--- ---- what a set_up_lem answers and leaves
+-- ---- what a set-up answers and leaves
 
 -- a number, and otherwise zeros
 abbrev answers : ℕ → Record → Outcome
@@ -77,7 +77,7 @@ pub record ZeroRecord : Type 0 where
   -- "A refused set-up gives the all-zero record": group 0, n 11
   pub refused_11 : set_up (record { group = 0; n = 4; t = 1; k = 2; i = 1; d = 1; session = 7 }) ≡ answers 11 (nothing_but no_numbers)
   pub refused_12 : set_up (sized 11 1 2) ≡ answers 12 (nothing_but no_numbers)
-  -- a set_up_lem that is taken keeps its numbers and holds nothing else
+  -- a set-up that is taken keeps its numbers and holds nothing else
   pub new_box : set_up class ≡ answers 0 (nothing_but class)
 
 pub zero_record_lem : ZeroRecord

@@ -50,7 +50,7 @@ impl Group {
     }
 }
 
-// The set_up_lem numbers, as a host hands them over: any numbers, until set_up_lem has tested them.
+// The set-up numbers, as a host hands them over: any numbers, until set-up has tested them.
 #[derive(Clone, Copy)]
 pub struct SetUp {
     pub group: u32,

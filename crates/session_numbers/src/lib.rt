@@ -1,4 +1,4 @@
-// The rules of the set_up_lem numbers, as set_up_lem tests them, and as every later call tests them in the record.
+// The rules of the set-up numbers, as set-up tests them, and as every later call tests them in the record.
 #![tactic(auto)]
 
 ghost use Rattle.std.specs.Prelude.{◌≡◌, true};
@@ -59,8 +59,8 @@ pub fn is_box(u: SetUp, m: u32) -> bool
     m <= u.n
 }
 
-// Refusal 12 of set_up_lem does not hold.
-pub fn numbers_keep_lem(u: SetUp) -> bool
+// Refusal 12 of set-up does not hold.
+pub fn numbers_keep(u: SetUp) -> bool
     ensures { result ≡ numbers_keep u }
 {
     if !sizes_keep(u.n, u.t, u.k) {

@@ -54,7 +54,7 @@ loop-again c =
     ⊎_elim
     (λ w.
     rw (w.2, w.1.ensures, c.times-base.ensures)
-    (mod-lt _ c.before.before.before.before.requires, odd _ _ _ _ w.0.taken ∙ inv.1))
+    (mod-lt _ c.before.before.before.before.requires, odd _ _ _ _ w.0.true ∙ inv.1))
     (λ w. rw (w.1, c.times-base.ensures) (inv.0, even _ _ _ _ w.0.left ∙ inv.1))
     c.before.if-left-eq1.branch
 

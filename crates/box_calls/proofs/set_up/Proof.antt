@@ -1,4 +1,4 @@
--- `set_up` answers a set_up_lem by its rows. Assumes nothing.
+-- `set_up` answers a set-up by its rows. Assumes nothing.
 use mathlib.Core.Path.{◌≡◌, ap, ◌∙◌}
 use mathlib.Core.Logic.{◌≢◌}
 use Prim.Native.Nat.{ℕ}
@@ -12,7 +12,7 @@ use Rattle.box_step.specs.Told.{quietly, told}
 use Rattle.box_calls.proofs.set_up.Statement.{statement}
 use Rattle.box_calls.proofs.set_up.Tie as tie
 
--- a set_up_lem by the number of its first row
+-- a set-up by the number of its first row
 module _ (u : SetUp) {n : ℕ} (is : n ≡ first_of (set_up_rows u)) where
   refuses : n ≢ 0 → refused n zero_record ≡ set_up u
   unfolding set_up outcome_of

@@ -32,17 +32,17 @@ checkable : (c : tie.After-read_matrix-c)
     → Checkable c.before.Group-of.result (start c.before).args.x.setup.k c.read_matrix-c.result
 checkable c =
     let s = start c.before in
-    let r = sound_ranges _ s.pre.hearing.is_sound in
+    let r = sound_ranges _ s.requires.hearing.is_sound in
     let g = group_ranges r c.before.Group-of.ensures in
     let no_share = c.before.before.before.before.if-tag-eq4.false in
-    let form = s.pre.hearing.form in
+    let form = s.requires.hearing.form in
     record {
       modulus = g.modulus;
       order = g.some;
       high = r.high;
       passes =
           ap₂ (λ G C. matrix_passes G s.args.x.setup.k C) c.before.Group-of.ensures c.read_matrix-c.ensures
-          ∙ s.pre.passes (omega (arith, form.high, no_share));
+          ∙ s.requires.passes (omega (arith, form.high, no_share));
     }
 
 abbrev begun : tie.After-read_matrix-c → tie.Start
@@ -67,7 +67,7 @@ point c =
     let u = a.x.setup in
     point_tested u.k u.i read.before.Group-of.ensures read.read_matrix-c.ensures a.sender
     c.before.before.read_four-four.ensures c.point_check.ensures
-    ∙ sym (point_checks a.x a.sender s.pre.hearing.form tested.if-tag-eq1.false read.before.before.before.before.if-tag-eq4.false)
+    ∙ sym (point_checks a.x a.sender s.requires.hearing.form tested.if-tag-eq1.false read.before.before.before.before.if-tag-eq4.false)
 
 pub checks_out_spec : {M : Type 1} → statement M
 checks_out_spec =

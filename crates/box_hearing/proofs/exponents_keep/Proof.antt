@@ -16,7 +16,7 @@ send c =
     let a = tested.before.before.before.before.args in
     c.polynomials_below.ensures
     ∙ ap₂ (λ (G : Group) P. polynomials_below G.q a.u.k P) tested.before.before.Group-of.ensures read.read_polynomials-all.ensures
-    ∙ sym (ap (exponents_keep a.u) (is_send_lem a.u a.bytes.now tested.if-tag-eq1.taken))
+    ∙ sym (ap (exponents_keep a.u) (is_send_lem a.u a.bytes.now tested.if-tag-eq1.true))
 
 share : tie.Need-returns-then-tag-eq4
 share c =
@@ -26,7 +26,7 @@ share c =
     let a = grouped.before.before.args in
     c.pair_below.ensures
     ∙ ap₂ (λ (G : Group) s. pair_below G.q s) grouped.Group-of.ensures read.read_pair-pair.ensures
-    ∙ sym (ap (exponents_keep a.u) (is_recovery_lem a.u a.bytes.now tested.if-tag-eq4.taken))
+    ∙ sym (ap (exponents_keep a.u) (is_recovery_lem a.u a.bytes.now tested.if-tag-eq4.true))
 
 point : tie.Need-returns
 point c =
@@ -36,7 +36,7 @@ point c =
     let start = grouped.before.before in
     c.four_below_lem.ensures
     ∙ ap₂ (λ (G : Group) f. four_below G.q f) grouped.Group-of.ensures read.read_four-four.ensures
-    ∙ sym (point_keeps start.pre.form tested.before.if-tag-eq1.left tested.if-tag-eq4.left)
+    ∙ sym (point_keeps start.requires.form tested.before.if-tag-eq1.false tested.if-tag-eq4.false)
 
 pub exponents_keep_spec : {M : Type 1} → statement M
 exponents_keep_spec =
@@ -44,14 +44,14 @@ exponents_keep_spec =
     (tie.spec
     (λ c κs. search rules)
     (λ c. search rules)
-    (λ c κs. let pre = c.before.before.before.before.pre in (pre.ranges.high, send_long pre.form c.if-tag-eq1.taken))
+    (λ c κs. let pre = c.before.before.before.before.requires in (pre.ranges.high, send_long pre.form c.if-tag-eq1.true))
     (λ c. search rules)
     (λ c κs. search rules)
     send
-    (λ c κs. share_long c.before.before.before.before.before.pre.form c.if-tag-eq4.taken)
+    (λ c κs. share_long c.before.before.before.before.before.requires.form c.if-tag-eq4.true)
     (λ c κs. search rules)
     share
-    (λ c κs. let pre = c.before.before.before.before.before.pre in
-    (pre.ranges.high, point_long pre.form c.before.if-tag-eq1.left c.if-tag-eq4.left))
+    (λ c κs. let pre = c.before.before.before.before.before.requires in
+    (pre.ranges.high, point_long pre.form c.before.if-tag-eq1.false c.if-tag-eq4.false))
     (λ c κs. search rules)
     point)

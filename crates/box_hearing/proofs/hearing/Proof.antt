@@ -1,7 +1,7 @@
 -- `hearing` is the first of rows 8 to 10 that holds. Assumes nothing.
 use mathlib.Core.Path.{sym, ◌∙◌}
 use borrow.Author.Tests.{le-leb, not-false}
-use Rattle.folds.specs.Tests.{and_rest, failed, passed}
+use Rattle.folds.specs.Tests.{and_rest}
 use Rattle.rules.specs.Messages.{has_matrix}
 use Rattle.rules.specs.Answers.{first_row, hearing_rows}
 use Rattle.box_hearing.specs.Known.{matrix_fails, readable}
@@ -16,7 +16,7 @@ row_9 : tie.Need-returns-then-not-exponents_keep
 unfolding first_row hearing_rows matrix_fails
 row_9 c =
     let first = c.before.before in
-    rw (sym first.before.matrix_fails.ensures ∙ first.if-matrix_fails.false, failed c.before.exponents_keep.ensures c.if-not-exponents_keep.true)
+    rw (sym first.before.matrix_fails.ensures ∙ first.if-matrix_fails.false, sym c.before.exponents_keep.ensures ∙ c.if-not-exponents_keep.true)
 
 checks-out-requires : tie.Need-checks_out-requires
 unfolding matrix_fails has_matrix
@@ -34,8 +34,8 @@ row_10 c =
     let first = second.before.before in
     rw (
       sym first.before.matrix_fails.ensures ∙ first.if-matrix_fails.false,
-      passed second.before.exponents_keep.ensures second.if-not-exponents_keep.false,
-      failed c.before.checks_out.ensures c.if-not-checks_out.true,
+      sym second.before.exponents_keep.ensures ∙ second.if-not-exponents_keep.false,
+      sym c.before.checks_out.ensures ∙ c.if-not-checks_out.true,
     )
 
 none : tie.Need-returns
@@ -45,8 +45,8 @@ none c =
     let first = second.before.before in
     rw (
       sym first.before.matrix_fails.ensures ∙ first.if-matrix_fails.false,
-      passed second.before.exponents_keep.ensures second.if-not-exponents_keep.false,
-      passed c.before.checks_out.ensures c.if-not-checks_out.false,
+      sym second.before.exponents_keep.ensures ∙ second.if-not-exponents_keep.false,
+      sym c.before.checks_out.ensures ∙ c.if-not-checks_out.false,
     )
 
 pub hearing_spec : {M : Type 1} → statement M

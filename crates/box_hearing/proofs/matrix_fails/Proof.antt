@@ -13,16 +13,16 @@ use Rattle.box_hearing.proofs.matrix_fails.Tie as tie
 
 none : tie.Need-returns-then-bytes-gt3
 unfolding matrix_fails has_matrix
-none c = rw (lt-leb _ 3 c.if-bytes-gt3.taken)
+none c = rw (lt-leb _ 3 c.if-bytes-gt3.true)
 
 read-matrix-requires : tie.Need-read_matrix-c-requires
 read-matrix-requires c κs =
     let start = c.before.before.before.before in
-    (start.pre.ranges.high, matrix_long start.pre.form (λ e. omega (arith, e, c.before.if-bytes-gt3.left)))
+    (start.requires.ranges.high, matrix_long start.requires.form (λ e. omega (arith, e, c.before.if-bytes-gt3.false)))
 
 matrix-passes-requires : tie.Need-matrix_passes-requires
 matrix-passes-requires c κs =
-    let pre = c.before.before.before.before.before.before.pre in
+    let pre = c.before.before.before.before.before.before.requires in
     ((group_ranges pre.ranges c.before.before.Group-of.ensures).modulus, pre.ranges.high)
 
 returns : tie.Need-returns
@@ -30,7 +30,7 @@ unfolding matrix_fails has_matrix
 returns c =
     let read = c.before.before in
     let a = c.before.before.before.before.before.before.before.args in
-    rw (le-leb _ 3 read.before.before.if-bytes-gt3.left)
+    rw (le-leb _ 3 read.before.before.if-bytes-gt3.false)
     (ap not (c.matrix_passes.ensures
     ∙ ap₂ (λ G C. matrix_passes G a.u.k C) read.before.Group-of.ensures read.read_matrix-c.ensures))
 

@@ -1,4 +1,5 @@
 -- `share_passes` is the share check against the completed matrix. Assumes nothing.
+use Rattle.std.proofs.Common.{◌∙◌}
 use mathlib.Core.Path.{sym, ap}
 use lib.Dec.{lit<}
 use borrow.Author.Rules.{rules, scaled_Fits}
@@ -15,7 +16,7 @@ within c =
     let start = c.before.before.before.before.before.before in
     ((sound_facts start.args.t1 start.requires).progress-1.completion _ c.before.completion-1.given.1).within
 
--- and its matrix passed refusal 8
+-- and its matrix sym refusal ∙ 8
 share-check-requires : tie.Need-share_check-requires
 unfolding matrix_of
 share-check-requires c κs =

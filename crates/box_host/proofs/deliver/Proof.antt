@@ -191,14 +191,14 @@ module _ {M : Type 1} {𝓤 : Ura M} (𝓛 : Logic 𝓤) (at_mem : Memory → SP
     )
 
     asked : ent 𝓤 (on_entry 𝓛 deliver-in.signature (α ∷ [], (κ₁, (κ₂, tt))) (full_share, (q₁, (q₂, tt))) to-arg to.0.4)
-        ((DeliverIn 𝓛 at_mem run).pre to)
+        ((DeliverIn 𝓛 at_mem run).requires to)
     asked =
         qed 𝓛 (AllToks
         ∷ ‵ (owns (MutRef (named 0) (α ∷ []) R.the_row ∷ u32 ∷ ShrSlice (named 1) κ₁ u8 ∷ MutSlice (named 2) κ₂ u8 ∷ []) to-arg to.0.4) ∷ []) ∵
         join ! $ frame ! $ done !
 
     -- the loan and the parameters give what it asks, and a copy of `bytes` is kept
-    apart : ent 𝓤 (⋆ 𝓛 (AllToks ∷ ‵ Ref ∷ ‵ Rest ∷ [])) (sep 𝓤 ((DeliverIn 𝓛 at_mem run).pre to) (sem 𝓛 Bytes))
+    apart : ent 𝓤 (⋆ 𝓛 (AllToks ∷ ‵ Ref ∷ ‵ Rest ∷ [])) (sep 𝓤 ((DeliverIn 𝓛 at_mem run).requires to) (sem 𝓛 Bytes))
     apart =
         qed 𝓛 (AllToks ∷ ‵ Ref ∷ ‵ Rest ∷ []) ∵
         move ! (2 ∷ []) $ fsplit ! $ drop ! $ fsplit ! $
@@ -206,7 +206,7 @@ module _ {M : Type 1} {𝓤 : Ura M} (𝓛 : Logic 𝓤) (at_mem : Memory → SP
         move ! (0 ∷ 2 ∷ []) $ fjoin ! $ owned ! u32 (Is u32) (uint_Makes 𝓛 w32) sender _ (refl, fits) $ fjoin ! $
         -- [what the others own; Bytes; the tokens; Ref]
         move ! (3 ∷ 0 ∷ []) $ fjoin ! $
-        move ! (2 ∷ 0 ∷ []) $ use2 𝓛 (raw ((DeliverIn 𝓛 at_mem run).pre to)) asked $ frame ! $ done !
+        move ! (2 ∷ 0 ∷ []) $ use2 𝓛 (raw ((DeliverIn 𝓛 at_mem run).requires to)) asked $ frame ! $ done !
 
   module _ (C : Calls 𝓤 H) (Λ : Loops 𝓤 H) (fm : FmC 𝓤 H 𝓛.laws C)
       (known : Triple 𝓤 (C #deliver-in) (DeliverIn 𝓛 at_mem run)) where
@@ -243,7 +243,7 @@ module _ {M : Type 1} {𝓤 : Ura M} (𝓛 : Logic 𝓤) (at_mem : Memory → SP
         -- [Ref; the lender's part; the new token; Rest; room for _10; …; _9; …; _8; …; _7; …; _6; …; the end of _5; _4; …; _3; …;
         --  _2; …; _1; …; room for _0; …; the tokens]
         move ! (2 ∷ 25 ∷ []) $ join ! $ move ! (0 ∷ 1 ∷ 3 ∷ []) $
-        use3 𝓛 (raw ((DeliverIn 𝓛 at_mem run).pre (to l₅ α γ)) ⊛ ‵ Bytes) (apart l₅ α γ) $ split ! $
+        use3 𝓛 (raw ((DeliverIn 𝓛 at_mem run).requires (to l₅ α γ)) ⊛ ‵ Bytes) (apart l₅ α γ) $ split ! $
         -- the call, and what it promises
         calls_at ! fm (DeliverIn 𝓛 at_mem run) known (to l₅ α γ)
         (and_then ! (load ! (from ! (stop !)) (look ! 9 refl)) (and_then ! (load ! (from ! (stop !)) (look ! 18 refl))

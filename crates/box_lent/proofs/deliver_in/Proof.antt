@@ -133,21 +133,21 @@ module _ {M : Type 1} {𝓤 : Ura M} (𝓛 : Logic 𝓤) (at_mem : Memory → SP
   )
 
   asked : ent 𝓤 (on_entry 𝓛 deliver.signature (κ₁, (κ₂, tt)) (q₁, (q₂, tt)) to-arg to.0.4)
-      ((Deliver 𝓛 at_mem run).pre to)
+      ((Deliver 𝓛 at_mem run).requires to)
   asked =
       qed 𝓛 (Toks ∷ ‵ (owns (R.the_row ∷ u32 ∷ ShrSlice (named 0) κ₁ u8 ∷ MutSlice (named 1) κ₂ u8 ∷ []) to-arg to.0.4) ∷ []) ∵
       join ! $ frame ! $ done !
 
   -- the parameters but the record give what it asks, and a copy of `bytes` is kept
   apart : Is R.the_row x (record_val x ∷ [])
-      → ent 𝓤 (⋆ 𝓛 (Toks ∷ ‵ Rest ∷ [])) (sep 𝓤 ((Deliver 𝓛 at_mem run).pre to) (sem 𝓛 Bytes))
+      → ent 𝓤 (⋆ 𝓛 (Toks ∷ ‵ Rest ∷ [])) (sep 𝓤 ((Deliver 𝓛 at_mem run).requires to) (sem 𝓛 Bytes))
   apart is =
       qed 𝓛 (Toks ∷ ‵ Rest ∷ []) ∵
       move ! (1 ∷ []) $ fsplit ! $ drop ! $ fsplit ! $
       use1 𝓛 (‵ Bytes ⊛ ‵ Bytes) ((shr_slice_copy 𝓛 (named 1) κ₁ u8).twice bytes (bytesVal ∷ [])) $ split ! $
       move ! (0 ∷ 2 ∷ []) $ fjoin ! $ owned ! u32 (Is u32) (uint_Makes 𝓛 w32) sender _ (refl, fits) $
       fjoin ! $ owned ! R.the_row (Is R.the_row) (record_makes 𝓛) x _ is $ fjoin ! $
-      move ! (2 ∷ 0 ∷ []) $ use2 𝓛 (raw ((Deliver 𝓛 at_mem run).pre to)) asked $ frame ! $ done !
+      move ! (2 ∷ 0 ∷ []) $ use2 𝓛 (raw ((Deliver 𝓛 at_mem run).requires to)) asked $ frame ! $ done !
 
   -- what it promises of its outcome and of the last bytes of `out`
   abbrev Said : Outcome → List ℕ → Type 0
@@ -204,7 +204,7 @@ module _ {M : Type 1} {𝓤 : Ura M} (𝓛 : Logic 𝓤) (at_mem : Memory → SP
         (and_then ! (load ! (from ! (fld ! refl (stop !))) (look_in ! 15 (sub ! 1 refl (whole !)))) (no_more !))))
         (from ! (stop !)) (init ! 7 refl (tt, (tt, (record { fits = room.0 }, tt)))) $
         -- the call, and what it promises
-        move ! (5 ∷ 6 ∷ []) $ use2 𝓛 (raw ((Deliver 𝓛 at_mem run).pre to) ⊛ ‵ Bytes) (apart is_x) $ split ! $
+        move ! (5 ∷ 6 ∷ []) $ use2 𝓛 (raw ((Deliver 𝓛 at_mem run).requires to) ⊛ ‵ Bytes) (apart is_x) $ split ! $
         calls_at ! fm (Deliver 𝓛 at_mem run) known to
         (and_then ! (load ! (from ! (stop !)) (look ! 11 refl)) (and_then ! (load ! (from ! (stop !)) (look ! 19 refl))
         (and_then ! (load ! (from ! (stop !)) (look ! 17 refl)) (and_then ! (load ! (from ! (stop !)) (look ! 7 refl)) (no_more !)))))

@@ -6,7 +6,7 @@ use native.Mathlib.Omega.{arith}
 use lib.Dec.{eqb}
 use borrow.Author.Rules.{rules}
 use borrow.Author.Tests.{eq-eqb, ne_eqb}
-use Rattle.folds.specs.Tests.{◌and◌, failed, passed}
+use Rattle.folds.specs.Tests.{◌and◌}
 use Rattle.rules.specs.Messages.{tag_in}
 use Rattle.rules.specs.Record.{is_there, is_done}
 use Rattle.rules.specs.Answers.{first_row, turn_rows}
@@ -19,7 +19,7 @@ abbrev start1 : tie.Joined-else-tag-eq1 → tie.Start
 start1 c = c.before.before.before.before
 
 left-4 : (c : tie.Joined-else-tag-eq1) → let a = (start1 c).args in eqb (tag_in a.bytes.now) 1 and not (eqb a.sender a.x.setup.d) ≡ false
-left-4 c = ⊎_elim (λ w. rw (eq-eqb _ _ w.0.taken, w.2.left)) (λ w. rw (ne_eqb _ _ w.left)) c.if-tag-eq1.came
+left-4 c = ⊎_elim (λ w. rw (eq-eqb _ _ w.0.true, w.2.false)) (λ w. rw (ne_eqb _ _ w.false)) c.if-tag-eq1.branch
 
 abbrev start3 : tie.Joined-is_done → tie.Start
 start3 c = start1 c.before.before.before
@@ -28,7 +28,7 @@ start3 c = start1 c.before.before.before
 recovering : (c : tie.Joined-is_done) → let p = (start3 c).args.x.progress in c.if-is_done.recovering ≡ is_done p.completion and p.commanded
 recovering c =
     let ended = c.before.is_done.ensures in
-    ⊎_elim (λ w. rw (sym ended ∙ w.0.taken) w.1) (λ w. rw (sym ended ∙ w.0.left) (w.1 ∙ w.0.left)) c.if-is_done.came
+    ⊎_elim (λ w. rw (sym ended ∙ w.0.true) w.1) (λ w. rw (sym ended ∙ w.0.false) (w.1 ∙ w.0.false)) c.if-is_done.branch
 
 abbrev start4 : tie.Joined-else-tag-eq4 → tie.Start
 start4 c = start3 c.before
@@ -37,26 +37,26 @@ left-5 : (c : tie.Joined-else-tag-eq4)
     → let a = (start4 c).args in
     eqb (tag_in a.bytes.now) 4 and not (is_done a.x.progress.completion and a.x.progress.commanded) ≡ false
 left-5 c =
-    ⊎_elim (λ w. rw (eq-eqb _ _ w.0.taken, passed (recovering c.before) w.1.left)) (λ w. rw (ne_eqb _ _ w.left))
-    c.if-tag-eq4.came
+    ⊎_elim (λ w. rw (eq-eqb _ _ w.0.true, sym (recovering c.before) ∙ w.1.false)) (λ w. rw (ne_eqb _ _ w.false))
+    c.if-tag-eq4.branch
 
 abbrev start6 : tie.Joined-else-tag-eq4-2 → tie.Start
 start6 c = start4 c.before.before
 
 left-6 : (c : tie.Joined-else-tag-eq4-2) → let a = (start6 c).args in eqb (tag_in a.bytes.now) 4 and is_there a.x.recovered.kept ≡ false
 left-6 c =
-    ⊎_elim (λ w. rw (eq-eqb _ _ w.0.taken, sym w.1.ensures ∙ w.2.left)) (λ w. rw (ne_eqb _ _ w.left)) c.if-tag-eq4-2.came
+    ⊎_elim (λ w. rw (eq-eqb _ _ w.0.true, sym w.1.ensures ∙ w.2.false)) (λ w. rw (ne_eqb _ _ w.false)) c.if-tag-eq4-2.branch
 
 row_4 : tie.Need-returns-then-sender-u
 unfolding first_row turn_rows
-row_4 c = rw (eq-eqb _ _ c.before.before.if-tag-eq1.taken, c.if-sender-u.taken)
+row_4 c = rw (eq-eqb _ _ c.before.before.if-tag-eq1.true, c.if-sender-u.true)
 
 row_5 : tie.Need-returns-then-not-recovering
 unfolding first_row turn_rows
 row_5 c =
     let fifth = c.before in
     rw
-    (left-4 fifth.before.before.before.before, eq-eqb _ _ fifth.if-tag-eq4.taken, failed (recovering fifth.before) c.if-not-recovering.taken)
+    (left-4 fifth.before.before.before.before, eq-eqb _ _ fifth.if-tag-eq4.true, sym (recovering fifth.before) ∙ c.if-not-recovering.true)
 
 row-6 : tie.Need-returns-then-is_there
 unfolding first_row turn_rows
@@ -65,8 +65,8 @@ row-6 c =
     rw (
       left-4 fifth.before.before.before.before,
       left-5 fifth,
-      eq-eqb _ _ c.before.before.if-tag-eq4-2.taken,
-      sym c.before.is_there.ensures ∙ c.if-is_there.taken,
+      eq-eqb _ _ c.before.before.if-tag-eq4-2.true,
+      sym c.before.is_there.ensures ∙ c.if-is_there.true,
     )
 
 row-7 : tie.Need-returns-then-is_heard
@@ -75,7 +75,7 @@ row-7 c =
     let sixth = c.before.before in
     let fifth = sixth.before.before in
     rw
-    (left-4 fifth.before.before.before.before, left-5 fifth, left-6 sixth, sym c.before.is_heard.ensures ∙ c.if-is_heard.taken)
+    (left-4 fifth.before.before.before.before, left-5 fifth, left-6 sixth, sym c.before.is_heard.ensures ∙ c.if-is_heard.true)
 
 none : tie.Need-returns
 unfolding first_row turn_rows
@@ -83,14 +83,14 @@ none c =
     let sixth = c.before.before in
     let fifth = sixth.before.before in
     rw
-    (left-4 fifth.before.before.before.before, left-5 fifth, left-6 sixth, sym c.before.is_heard.ensures ∙ c.if-is_heard.left)
+    (left-4 fifth.before.before.before.before, left-5 fifth, left-6 sixth, sym c.before.is_heard.ensures ∙ c.if-is_heard.false)
 
 sub-m : tie.Need-overflow_sub-m
-sub-m c = (is_box_lem _ _ (start6 c).pre.box).0
+sub-m c = (is_box_lem _ _ (start6 c).requires.box).0
 
 is-heard-requires : tie.Need-is_heard-requires
 is-heard-requires c κs =
-    let p = (start6 c).pre in
+    let p = (start6 c).requires in
     let b = is_box_lem _ _ p.box in
     record {
       low = p.form.low;

@@ -18,7 +18,7 @@ use Rattle.box_steps.specs.Laws.{tells, group_ranges, can_send, CoinRanges, coin
 use Rattle.box_steps.proofs.take_deal.Statement.{statement}
 use Rattle.box_steps.proofs.take_deal.Tie as tie
 
--- the ranges of the set_up_lem numbers, and those of the secret and the coins
+-- the ranges of the set-up numbers, and those of the secret and the coins
 numbers : (c : tie.Start) → Ranges c.args.x.setup
 numbers c = sound_ranges _ c.requires.called.is_sound
 
@@ -70,7 +70,7 @@ take_deal_spec =
     (λ c κs. let grouped = c.before.before.before.before in
     let r = numbers (start grouped) in
     record { some = (group_ranges r grouped.Group-of.ensures).some; high = r.high; boxes = r.boxes })
-    (λ c κs. let begun = start c.before.before.before.before.before.before in can_send (numbers begun) begun.pre.called.room)
+    (λ c κs. let begun = start c.before.before.before.before.before.before in can_send (numbers begun) begun.requires.called.room)
     (λ c κs. search rules)
     (λ c κs. search rules)
     (λ c. search rules)

@@ -17,7 +17,7 @@ start c = c.before.before.before.before.before
 within : tie.Need-bounds-x-s
 within c =
     let s = start c.before in
-    ((sound_facts s.args.t2 s.pre.called.is_sound).progress-1.completion _ c.before.completion-1.given.1).within
+    ((sound_facts s.args.t2 s.requires.called.is_sound).progress-1.completion _ c.before.completion-1.given.1).within
 
 not_yet : tie.Need-returns-in-NotYet
 unfolding written

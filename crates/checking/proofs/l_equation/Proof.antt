@@ -15,6 +15,6 @@ l_equation_spec =
     tie.close
     (found5 tie.spec (search rules)
     (λ c κs. let s = start c.before.before in
-    rw c.before.before.column.ensures (column_line s.pre.0 _ (λ some. s.pre.1)))
+    rw c.before.before.column.ensures (column_line s.requires.0 _ (λ some. s.requires.1)))
     (λ c. let called = c.before.before.before in
     column_opens (start called).requires.0 _ _ _ c.line_opens.ensures _ called.column.ensures))

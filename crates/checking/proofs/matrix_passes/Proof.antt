@@ -1,10 +1,10 @@
 -- `matrix_passes` is the test that refusal 8 holds of no entry of a matrix. The loop's invariant: each row before j passed.
 -- Assumes nothing.
+use Rattle.std.proofs.Common.{sym, ◌∙◌}
 use mathlib.Core.Path.{◌≡◌}
 use mathlib.Core.Bool.{true}
 use Prim.Native.Nat.{◌-◌}
 use borrow.Author.Rules.{rules}
-use Rattle.folds.specs.Tests.{failed, passed}
 use Rattle.folds.specs.Below.{all_below, all_below-zero, all_below_more}
 use Rattle.rules.specs.Matrices.{entry}
 use Rattle.rules.specs.Dealing.{in_group, matrix_passes}
@@ -27,9 +27,9 @@ matrix_passes_spec =
     (λ c. search rules)
     (λ c κs. c.before.before.before.requires)
     (λ c. let turn = c.before.before.before in
-    all_fails _ _ _ turn.loop-j-test.true (failed c.before.row_passes.ensures c.if-not-row_passes.true))
+    all_fails _ _ _ turn.loop-j-test.true (sym c.before.row_passes.ensures ∙ c.if-not-row_passes.true))
     (λ c. search rules)
     (λ c. search rules)
     (λ c. let turn = c.before.before.before in
-    all_below_more _ _ turn.before.loop-j.invariant (passed c.before.row_passes.ensures c.if-not-row_passes.false))
+    all_below_more _ _ turn.before.loop-j.invariant (sym c.before.row_passes.ensures ∙ c.if-not-row_passes.false))
     (λ c. all_passed _ _ _ c.loop-j-test.false c.before.loop-j.invariant))

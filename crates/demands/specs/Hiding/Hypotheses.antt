@@ -1,7 +1,7 @@
 -- What demand 3 is given: a class whose numbers keep their rules, a set of at most k - 1 boxes without the dealer, two secrets below q, and
 -- coins for the one.
 --
--- In order: the hypotheses; the numbers; every box is taken at set_up_lem; what is known of the matching coins.
+-- In order: the hypotheses; the numbers; every box is taken at set-up; what is known of the matching coins.
 -- Assumes nothing.
 use Rattle.std.specs.Prelude.{◌≡◌, true, false, ℕ, ◌*◌, ◌<◌, ◌%◌}
 use Rattle.std.proofs.Common.{mod-lt}

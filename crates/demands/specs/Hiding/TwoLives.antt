@@ -1,6 +1,6 @@
 -- One box in two runs: its record moved, its answers the same, what it sent moved.
 --
--- In order: a command that leaves no mark; the two lives of a box, from set_up_lem, and one call more; a message that it has sent.
+-- In order: a command that leaves no mark; the two lives of a box, from set-up, and one call more; a message that it has sent.
 -- Assumes nothing.
 use Rattle.std.specs.Prelude.{◌≡◌, Bool, true, false, ◌⊎◌, eqb, ltb, get_or, replicate}
 use Rattle.std.proofs.Math.Path.{refl, ap, ap₂, subst}

@@ -26,7 +26,7 @@ doing x (deals secret coins lent) = deal x secret coins (replicate lent 0)
 doing x (gets sender bytes lent) = deliver x sender bytes (replicate lent 0)
 doing x (commanded lent) = recover x (replicate lent 0)
 
--- "set up there once, under its own number and with the set_up_lem numbers that the whole session shares, and each later call
+-- "set up there once, under its own number and with the set-up numbers that the whole session shares, and each later call
 -- gets the record that the last one left"
 unfoldable pub after : SetUp → List Call → Record
 after u [] = (set_up u).next
@@ -55,7 +55,7 @@ message_to n run j = take (length run / n) (drop ((j - 1) * (length run / n)) ru
 
 -- ---- a class and its history
 
--- the set_up_lem numbers that the whole session shares, and the boxes that need not keep the rules
+-- the set-up numbers that the whole session shares, and the boxes that need not keep the rules
 pub record Class : Type 0 where
   pub numbers : SetUp
   pub breaks : ℕ → Bool

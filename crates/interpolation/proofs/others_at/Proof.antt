@@ -44,8 +44,8 @@ loop-again c =
     let inv = c.before.before.loop-j.invariant.1 in (
       omega arith,
       ⊎_elim
-          (λ w. rw (w.4, w.3.ensures, w.2.ensures, inv) (another _ _ _ _ _ w.0.taken))
-          (λ w. rw (w.1, inv) (own _ _ _ _ _ w.0.left))
+          (λ w. rw (w.4, w.3.ensures, w.2.ensures, inv) (another _ _ _ _ _ w.0.true))
+          (λ w. rw (w.1, inv) (own _ _ _ _ _ w.0.false))
           c.if-j-i.branch,
     )
 

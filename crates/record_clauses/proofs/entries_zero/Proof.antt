@@ -11,7 +11,7 @@ use lib.ListN.{get_or, get_or-map}
 use borrow.Author.Rules.{rules}
 use borrow.Author.Tests.{le-ltb}
 use Rattle.folds.specs.Found.{found3}
-use Rattle.folds.specs.Tests.{◌and◌, ◌or◌, pick, failed, passed}
+use Rattle.folds.specs.Tests.{◌and◌, ◌or◌, pick}
 use Rattle.folds.specs.Below.{all_below, all_below-zero, all_below_more, all_below_same}
 use Rattle.rules.specs.declared.Element.{Element}
 use Rattle.rules.specs.declared.Slot.{Slot}
@@ -60,17 +60,17 @@ tested c =
     let j = head.loop-j.j in
     let column : met.if-slot.column ≡ columnOf k slot j =
     ⊎_elim
-    (λ w. let low : ltb j k ≡ true = w.1.taken in rw (w.0.taken, low) w.2)
-    (λ w. ⊎_elim (λ v. let high : ltb j k ≡ false = v.1.left in rw (v.0.taken, high) w.1) (λ v. rw v.left w.1) w.0.came)
+    (λ w. let low : ltb j k ≡ true = w.1.true in rw (w.0.true, low) w.2)
+    (λ w. ⊎_elim (λ v. let high : ltb j k ≡ false = v.1.false in rw (v.0.true, high) w.1) (λ v. rw v.false w.1) w.0.branch)
     met.if-slot.branch in
     (rw column at c.zero_from.ensures) ∙ row_read k slot j
 
 returns : tie.Need-returns-then-not-zero_from invariant-loop-j decreases-loop-j
 unfolding entries_zero
-returns c = let turn = c.before.before.before.before in all_fails _ _ _ turn.before.loop-j-test.true (failed (tested c.before) c.if-not-zero_from.true)
+returns c = let turn = c.before.before.before.before in all_fails _ _ _ turn.before.loop-j-test.true (sym (tested c.before) ∙ c.if-not-zero_from.true)
 
 loop-again : tie.Need-loop-j-preserved invariant-loop-j decreases-loop-j
-loop-again c = let turn = c.before.before.before.before in all_below_more _ _ turn.before.before.loop-j.invariant (passed (tested c.before) c.if-not-zero_from.false)
+loop-again c = let turn = c.before.before.before.before in all_below_more _ _ turn.before.before.loop-j.invariant (sym (tested c.before) ∙ c.if-not-zero_from.false)
 
 returns-2 : tie.Need-returns invariant-loop-j decreases-loop-j
 unfolding entries_zero

@@ -1,12 +1,12 @@
 -- `matrices_differ` is the test that matrices in use are different. The loop's invariant: those before s are.
 -- Assumes nothing.
+use Rattle.std.proofs.Common.{sym, ◌∙◌}
 use mathlib.Core.Path.{◌≡◌}
 use mathlib.Core.Bool.{true, false}
 use mathlib.Core.List.{List}
 use mathlib.Core.Logic.{⊎_elim}
 use Prim.Native.Nat.{ℕ, ◌-◌}
 use borrow.Author.Rules.{rules}
-use Rattle.folds.specs.Tests.{failed, passed}
 use Rattle.folds.specs.Below.{all_below, all_below-zero, all_below_more, all_below_all}
 use Rattle.rules.specs.declared.Slot.{Slot}
 use Rattle.folds.specs.Loops.{all_fails, all_passed}
@@ -27,12 +27,12 @@ unused-differs k slots s h = all_below_all _ s (λ i l. rw h)
 
 returns : tie.Need-returns-then-not-differs_below invariant-loop-s decreases-loop-s
 unfolding all_differ
-returns c = all_fails _ _ _ c.before.before.before.before.loop-s-test.true (failed c.before.differs_below.ensures c.if-not-differs_below.true)
+returns c = all_fails _ _ _ c.before.before.before.before.loop-s-test.true (sym c.before.differs_below.ensures ∙ c.if-not-differs_below.true)
 
 loop-again : tie.Need-loop-s-preserved invariant-loop-s decreases-loop-s
 loop-again c =
     all_below_more _ _ c.before.before.before.loop-s.invariant
-    (⊎_elim (λ w. passed w.1.ensures w.2.left) (λ w. unused-differs _ _ _ w.left) c.if-slot.branch)
+    (⊎_elim (λ w. sym w.1.ensures ∙ w.2.false) (λ w. unused-differs _ _ _ w.false) c.if-slot.branch)
 
 returns-2 : tie.Need-returns invariant-loop-s decreases-loop-s
 unfolding all_differ

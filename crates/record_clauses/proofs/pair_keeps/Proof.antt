@@ -26,11 +26,11 @@ returns c =
     let enough : met.if-echo_quorum-count_marks.enough ≡ (leb (echo_quorum u) (count_e slot) or leb u.k (count_r slot)) =
     ⊎_elim
     (λ w.
-    let yes = le-leb _ _ w.0.taken in
+    let yes = le-leb _ _ w.0.true in
     let e : leb (echo_quorum u) (count_e slot) ≡ true = sym asked ∙ yes in
     rw e (w.1 ∙ yes))
     (λ w.
-    let e : leb (echo_quorum u) (count_e slot) ≡ false = sym asked ∙ lt-leb _ _ w.0.left in
+    let e : leb (echo_quorum u) (count_e slot) ≡ false = sym asked ∙ lt-leb _ _ w.0.false in
     rw e (w.3 ∙ ap (leb u.k) w.1.ensures))
     met.if-echo_quorum-count_marks.branch in
     beq_same c.is_there.result met.if-echo_quorum-count_marks.enough ∙ ap₂ same c.is_there.ensures enough

@@ -1,12 +1,13 @@
 -- `places_keep` is the test that a place is held exactly if its sender is marked for either. The loop's invariant: each place
 -- before m passed. Assumes nothing.
+use Rattle.std.proofs.Common.{sym}
 use mathlib.Core.Path.{◌≡◌, ap₂, ◌∙◌}
 use mathlib.Core.Bool.{Bool, true, beq}
 use mathlib.Core.Logic.{⊎_elim}
 use Prim.Native.Nat.{ℕ, ◌-◌}
 use borrow.Author.Rules.{rules}
 use Rattle.folds.specs.Found.{found5}
-use Rattle.folds.specs.Tests.{◌or◌, same, beq_same, failed, passed}
+use Rattle.folds.specs.Tests.{◌or◌, same, beq_same}
 use Rattle.folds.specs.Below.{all_below, all_below-zero, all_below_more}
 use Rattle.rules.specs.declared.Slot.{Slot}
 use Rattle.rules.specs.Record.{marked, held, places_keep}
@@ -32,15 +33,15 @@ tested c =
     let head = met.before.before.before.before in
     let slot = head.before.before.before.args.t1 in
     let either : met.if-echoed-m.marked ≡ (marked slot.echoed-1 head.loop-m.m or marked slot.readied-1 head.loop-m.m) =
-    ⊎_elim (λ w. rw w.0.taken (w.1 ∙ w.0.taken)) (λ w. rw w.0.left w.2) met.if-echoed-m.branch in
+    ⊎_elim (λ w. rw w.0.true (w.1 ∙ w.0.true)) (λ w. rw w.0.false w.2) met.if-echoed-m.branch in
     beq_same c.is_held.result met.if-echoed-m.marked ∙ ap₂ same c.is_held.ensures either
 
 returns : tie.Need-returns-then-is_held-marked invariant-loop-m decreases-loop-m
 unfolding places_keep
-returns c = let turn = c.before.before.before.before in all_fails _ _ _ turn.before.loop-m-test.true (failed (tested c.before) c.if-is_held-marked.true)
+returns c = let turn = c.before.before.before.before in all_fails _ _ _ turn.before.loop-m-test.true (sym (tested c.before) ∙ c.if-is_held-marked.true)
 
 loop-again : tie.Need-loop-m-preserved invariant-loop-m decreases-loop-m
-loop-again c = let turn = c.before.before.before.before in all_below_more _ _ turn.before.before.loop-m.invariant (passed (tested c.before) c.if-is_held-marked.false)
+loop-again c = let turn = c.before.before.before.before in all_below_more _ _ turn.before.before.loop-m.invariant (sym (tested c.before) ∙ c.if-is_held-marked.false)
 
 returns-2 : tie.Need-returns invariant-loop-m decreases-loop-m
 unfolding places_keep

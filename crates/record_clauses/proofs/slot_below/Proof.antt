@@ -1,11 +1,11 @@
 -- `slot_below` is the test that every number stored in a slot is below q. The loop's invariant: each place before m passed.
 -- Assumes nothing.
+use Rattle.std.proofs.Common.{◌∙◌}
 use mathlib.Core.Path.{◌≡◌, sym}
 use mathlib.Core.Bool.{true}
 use Prim.Native.Nat.{◌-◌}
 use borrow.Author.Rules.{rules}
 use Rattle.folds.specs.Found.{found3}
-use Rattle.folds.specs.Tests.{failed, passed}
 use Rattle.folds.specs.Below.{all_below, all_below-zero, all_below_more, all_below_not}
 use Rattle.rules.specs.Record.{place_at, point_below, slot_below}
 use Rattle.folds.specs.Loops.{all_passed}
@@ -23,11 +23,11 @@ unfolding slot_below
 returns c =
     let turn = c.before.before.before in
     let a = turn.before.before.args in
-    let fails = all_below_not (λ m. point_below a.q (place_at a.t2 m).point) 10 _ turn.loop-m-test.true (failed c.before.point_below.ensures c.if-not-point_below.true) in
+    let fails = all_below_not (λ m. point_below a.q (place_at a.t2 m).point) 10 _ turn.loop-m-test.true (sym c.before.point_below.ensures ∙ c.if-not-point_below.true) in
     rw fails
 
 loop-again : tie.Need-loop-m-preserved invariant-loop-m decreases-loop-m
-loop-again c = all_below_more _ _ c.before.before.before.before.loop-m.invariant (passed c.before.point_below.ensures c.if-not-point_below.false)
+loop-again c = all_below_more _ _ c.before.before.before.before.loop-m.invariant (sym c.before.point_below.ensures ∙ c.if-not-point_below.false)
 
 returns-2 : tie.Need-returns invariant-loop-m decreases-loop-m
 unfolding slot_below

@@ -27,10 +27,10 @@ most c =
     let held = use_keeps a.slot and pair in
     let places = places_keep a.slot and held in
     let below = ap (λ (t : Bool). t and passes_in a.group a.u.k a.slot and places) (sym first.before.slot_below.ensures) in
-    let s1 = chain places below (⊎_map (λ w. (w.0.taken, w.2 ∙ w.1.ensures)) (λ w. (w.0.left, w.1)) first.if-slot_below.branch) in
-    let s2 = chain held s1 (⊎_map (λ w. (w.0.taken, w.2 ∙ w.1.ensures)) (λ w. (w.0.left, w.1)) second.if-passes_in.branch) in
-    let s3 = chain pair s2 (⊎_map (λ w. (w.0.taken, w.2 ∙ w.1.ensures)) (λ w. (w.0.left, w.1)) third.if-places_keep.branch) in
-    chain zero s3 (⊎_map (λ w. (w.0.taken, w.2 ∙ w.1.ensures)) (λ w. (w.0.left, w.1)) c.if-use_keeps.branch)
+    let s1 = chain places below (⊎_map (λ w. (w.0.true, w.2 ∙ w.1.ensures)) (λ w. (w.0.false, w.1)) first.if-slot_below.branch) in
+    let s2 = chain held s1 (⊎_map (λ w. (w.0.true, w.2 ∙ w.1.ensures)) (λ w. (w.0.false, w.1)) second.if-passes_in.branch) in
+    let s3 = chain pair s2 (⊎_map (λ w. (w.0.true, w.2 ∙ w.1.ensures)) (λ w. (w.0.false, w.1)) third.if-places_keep.branch) in
+    chain zero s3 (⊎_map (λ w. (w.0.true, w.2 ∙ w.1.ensures)) (λ w. (w.0.false, w.1)) c.if-use_keeps.branch)
 
 pub slot_keeps_spec : {M : Type 1} → statement M
 slot_keeps_spec =

@@ -1,10 +1,10 @@
 -- `slots_keep` is the test that every slot keeps the clauses that speak of one slot. The loop's invariant: each slot before s
 -- does. Assumes nothing.
+use Rattle.std.proofs.Common.{sym, ◌∙◌}
 use mathlib.Core.Path.{◌≡◌}
 use mathlib.Core.Bool.{true}
 use Prim.Native.Nat.{◌-◌}
 use borrow.Author.Rules.{rules}
-use Rattle.folds.specs.Tests.{failed, passed}
 use Rattle.folds.specs.Below.{all_below, all_below-zero, all_below_more}
 use Rattle.folds.specs.Loops.{all_fails, all_passed}
 use Rattle.record_reading.specs.Slots.{slot_in}
@@ -20,10 +20,10 @@ decreases-loop-s group u slots s₀ s = 20 - s
 
 returns : tie.Need-returns-then-not-slot_keeps invariant-loop-s decreases-loop-s
 unfolding every_slot
-returns c = all_fails _ _ _ c.before.before.before.loop-s-test.true (failed c.before.slot_keeps.ensures c.if-not-slot_keeps.true)
+returns c = all_fails _ _ _ c.before.before.before.loop-s-test.true (sym c.before.slot_keeps.ensures ∙ c.if-not-slot_keeps.true)
 
 loop-again : tie.Need-loop-s-preserved invariant-loop-s decreases-loop-s
-loop-again c = all_below_more _ _ c.before.before.before.before.loop-s.invariant (passed c.before.slot_keeps.ensures c.if-not-slot_keeps.false)
+loop-again c = all_below_more _ _ c.before.before.before.before.loop-s.invariant (sym c.before.slot_keeps.ensures ∙ c.if-not-slot_keeps.false)
 
 returns-2 : tie.Need-returns invariant-loop-s decreases-loop-s
 unfolding every_slot

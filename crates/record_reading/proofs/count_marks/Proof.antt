@@ -23,7 +23,7 @@ loop-again : tie.Need-loop-m-preserved invariant-loop-m decreases-loop-m
 loop-again c =
     let turn = c.before.before in
     let next = counted_more _ 10 _ turn.loop-m-test.true turn.before.loop-m.invariant in
-    ⊎_elim (λ w. next.0 w.0.taken w.1) (λ w. next.1 w.0.left w.1) c.if-marks-m.branch
+    ⊎_elim (λ w. next.0 w.0.true w.1) (λ w. next.1 w.0.false w.1) c.if-marks-m.branch
 
 returns : tie.Need-returns invariant-loop-m decreases-loop-m
 unfolding count_marks

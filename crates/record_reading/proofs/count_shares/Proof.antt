@@ -32,7 +32,7 @@ loop-again c =
     let turn = c.before.before.before in
     let next = counted_more _ 10 _ turn.loop-m-test.true turn.before.loop-m.invariant in
     let test = sym c.before.is_there.ensures in
-    ⊎_elim (λ w. next.0 (test ∙ w.0.taken) w.1) (λ w. next.1 (test ∙ w.0.left) w.1) c.if-is_there.branch
+    ⊎_elim (λ w. next.0 (test ∙ w.0.true) w.1) (λ w. next.1 (test ∙ w.0.false) w.1) c.if-is_there.branch
 
 returns : tie.Need-returns invariant-loop-m decreases-loop-m
 unfolding shares_kept

@@ -1,12 +1,12 @@
 -- `same_matrix` is the test that two matrices agree in the first k rows and columns. The loop's invariant: the rows before j
 -- agree. Assumes nothing.
+use Rattle.std.proofs.Common.{sym, ◌∙◌}
 use mathlib.Core.Path.{◌≡◌}
 use mathlib.Core.Bool.{true}
 use Prim.Native.Nat.{◌-◌}
 use lib.Dec.{eqb}
 use borrow.Author.Rules.{rules}
 use Rattle.folds.specs.Found.{found5}
-use Rattle.folds.specs.Tests.{failed, passed}
 use Rattle.folds.specs.Below.{all_below, all_below-zero, all_below_more}
 use Rattle.rules.specs.Matrices.{entry}
 use Rattle.rules.specs.Record.{same_matrix}
@@ -23,13 +23,13 @@ decreases-loop-j k c d j₀ j = k - j
 
 returns : tie.Need-returns-then-not-same_row invariant-loop-j decreases-loop-j
 unfolding same_matrix same_row
-returns c = all_fails _ _ _ c.before.before.before.before.loop-j-test.true (failed c.before.same_row.ensures c.if-not-same_row.true)
+returns c = all_fails _ _ _ c.before.before.before.before.loop-j-test.true (sym c.before.same_row.ensures ∙ c.if-not-same_row.true)
 
 loop-again : tie.Need-loop-j-preserved invariant-loop-j decreases-loop-j
 unfolding same_row
 loop-again c =
     let turn = c.before.before.before.before in
-    all_below_more _ _ turn.before.loop-j.invariant (passed c.before.same_row.ensures c.if-not-same_row.false)
+    all_below_more _ _ turn.before.loop-j.invariant (sym c.before.same_row.ensures ∙ c.if-not-same_row.false)
 
 returns-2 : tie.Need-returns invariant-loop-j decreases-loop-j
 unfolding same_matrix

@@ -5,7 +5,7 @@ use mathlib.Core.Bool.{Bool, true, false}
 use Prim.Native.Nat.{◌<◌}
 use native.Mathlib.Omega.{arith}
 use borrow.Author.Rules.{rules}
-use Rattle.folds.specs.Tests.{true≢false, false_unless, iff_same, failed, passed}
+use Rattle.folds.specs.Tests.{true≢false, false_unless, iff_same}
 use Rattle.rules.specs.declared.Group.{Group}
 use Rattle.rules.specs.declared.Record.{Record}
 use Rattle.rules.specs.Numbers.{group_of, group_keeps, numbers_keep}
@@ -23,10 +23,10 @@ refused x f e = sym (false_unless (sound x) (λ h. true≢false (sym (f (tests x
 
 -- the group and the numbers passed
 group : (c : tie.Else-not-group_keeps) → group_keeps c.before.before.before.args.x.setup ≡ true
-group c = passed c.before.group_keeps.ensures c.if-not-group_keeps.false
+group c = sym c.before.group_keeps.ensures ∙ c.if-not-group_keeps.false
 
 numbers : (c : tie.Else-not-numbers_keep_lem) → numbers_keep c.before.before.before.before.before.args.x.setup ≡ true
-numbers c = passed c.before.numbers_keep_lem.ensures c.if-not-numbers_keep_lem.false
+numbers c = sym c.before.numbers_keep_lem.ensures ∙ c.if-not-numbers_keep_lem.false
 
 -- the two calls that are given the group
 abbrev asked3 : tie.After-slots_keep → Record
@@ -53,10 +53,10 @@ recovery-tested c =
     c.recovery_keeps.ensures ∙ ap (λ (G : Group). recovery_passes G.q (asked3 slots)) slots.before.before.Group-of.ensures
 
 returns : tie.Need-returns-then-not-group_keeps
-returns c = refused _ (λ t. t.group) (failed c.before.group_keeps.ensures c.if-not-group_keeps.true)
+returns c = refused _ (λ t. t.group) (sym c.before.group_keeps.ensures ∙ c.if-not-group_keeps.true)
 
 returns-2 : tie.Need-returns-then-not-numbers_keep_lem
-returns-2 c = refused _ (λ t. t.numbers) (failed c.before.numbers_keep_lem.ensures c.if-not-numbers_keep_lem.true)
+returns-2 c = refused _ (λ t. t.numbers) (sym c.before.numbers_keep_lem.ensures ∙ c.if-not-numbers_keep_lem.true)
 
 slots-keep-requires : tie.Need-slots_keep-requires
 slots-keep-requires c κs =
@@ -69,7 +69,7 @@ slots-keep-requires c κs =
     (rw c.before.Group-of.ensures p, s)
 
 returns-3 : tie.Need-returns-then-not-slots_keep
-returns-3 c = refused _ (λ t. t.slots) (failed (slots-tested c.before) c.if-not-slots_keep.true)
+returns-3 c = refused _ (λ t. t.slots) (sym (slots-tested c.before) ∙ c.if-not-slots_keep.true)
 
 matrices-differ-requires : tie.Need-matrices_differ-requires
 matrices-differ-requires c κs =
@@ -77,10 +77,10 @@ matrices-differ-requires c κs =
     (bounds _ (numbers third.before.before.before.before)).sizes.high
 
 returns-4 : tie.Need-returns-then-not-matrices_differ
-returns-4 c = refused _ (λ t. t.differ) (failed c.before.matrices_differ.ensures c.if-not-matrices_differ.true)
+returns-4 c = refused _ (λ t. t.differ) (sym c.before.matrices_differ.ensures ∙ c.if-not-matrices_differ.true)
 
 returns-5 : tie.Need-returns-then-not-marks_keep
-returns-5 c = refused _ (λ t. t.marks) (failed c.before.marks_keep.ensures c.if-not-marks_keep.true)
+returns-5 c = refused _ (λ t. t.marks) (sym c.before.marks_keep.ensures ∙ c.if-not-marks_keep.true)
 
 completion-keeps-requires : tie.Need-completion_keeps-requires
 completion-keeps-requires c κs =
@@ -90,13 +90,13 @@ completion-keeps-requires c κs =
     omega arith
 
 returns-6 : tie.Need-returns-then-not-completion_keeps
-returns-6 c = refused _ (λ t. t.completion) (failed c.before.completion_keeps.ensures c.if-not-completion_keeps.true)
+returns-6 c = refused _ (λ t. t.completion) (sym c.before.completion_keeps.ensures ∙ c.if-not-completion_keeps.true)
 
 returns-7 : tie.Need-returns-then-not-recovery_keeps
-returns-7 c = refused _ (λ t. t.recovery) (failed (recovery-tested c.before) c.if-not-recovery_keeps.true)
+returns-7 c = refused _ (λ t. t.recovery) (sym (recovery-tested c.before) ∙ c.if-not-recovery_keeps.true)
 
 returns-8 : tie.Need-returns-then-not-dealt_keeps
-returns-8 c = refused _ (λ t. t.dealt) (failed c.before.dealt_keeps.ensures c.if-not-dealt_keeps.true)
+returns-8 c = refused _ (λ t. t.dealt) (sym c.before.dealt_keeps.ensures ∙ c.if-not-dealt_keeps.true)
 
 returns-9 : tie.Need-returns
 returns-9 c =
@@ -116,12 +116,12 @@ returns-9 c =
     (record {
       group = group first;
       numbers = numbers second;
-      slots = passed (slots-tested third.before) third.if-not-slots_keep.false;
-      differ = passed fourth.before.matrices_differ.ensures fourth.if-not-matrices_differ.false;
-      marks = passed fifth.before.marks_keep.ensures fifth.if-not-marks_keep.false;
-      completion = passed sixth.before.completion_keeps.ensures sixth.if-not-completion_keeps.false;
-      recovery = passed (recovery-tested seventh.before) seventh.if-not-recovery_keeps.false;
-      dealt = passed eighth.before.dealt_keeps.ensures eighth.if-not-dealt_keeps.false;
+      slots = sym (slots-tested third.before) ∙ third.if-not-slots_keep.false;
+      differ = sym fourth.before.matrices_differ.ensures ∙ fourth.if-not-matrices_differ.false;
+      marks = sym fifth.before.marks_keep.ensures ∙ fifth.if-not-marks_keep.false;
+      completion = sym sixth.before.completion_keeps.ensures ∙ sixth.if-not-completion_keeps.false;
+      recovery = sym (recovery-tested seventh.before) ∙ seventh.if-not-recovery_keeps.false;
+      dealt = sym eighth.before.dealt_keeps.ensures ∙ eighth.if-not-dealt_keeps.false;
       senders = e;
     }))
     (λ h. (tests x h).senders)

@@ -1,6 +1,6 @@
 -- A sound record as facts at each index: what a change of one part of the record is followed through by.
 --
--- In order: echo and ready as two sides of one thing; the set_up_lem numbers; a slot; the record.
+-- In order: echo and ready as two sides of one thing; the set-up numbers; a slot; the record.
 -- Assumes nothing.
 use Rattle.std.specs.Prelude.{◌≡◌, Bool, true, false, List, ℕ, ◌+◌, ◌<◌, ◌≤◌, eqb, leb, get_or}
 use Rattle.std.proofs.Common.{sym, ◌∙◌, arith}
@@ -37,7 +37,7 @@ ear ByReady = 2
 abbrev pub hears : Record → ℕ → ℕ → Bool
 hears x a m = marked (get_or x.heard a no_marks) m
 
--- ---- the set_up_lem numbers
+-- ---- the set-up numbers
 
 -- what a change of the record needs of them
 pub record Needed (u : SetUp) : Type 0 where
@@ -109,7 +109,7 @@ pub record Facts (x : Record) : Type 0 where
   pub shares : SharesFacts x.setup x.shares x.recovered x.heard x.progress.commanded
   pub none : (m a : ℕ) → m < 10 → x.setup.n ≤ m → a < 4 → hears x a m ≡ false
 
--- The set_up_lem numbers of a record with these facts keep their rules.
+-- The set-up numbers of a record with these facts keep their rules.
 pub needed : (x : Record) → Facts x → Needed x.setup
 needed x c =
     let s = (bounds x.setup c.numbers).sizes in

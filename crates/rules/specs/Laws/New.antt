@@ -1,6 +1,6 @@
--- A new record is sound, and of the right lengths; the all-zero record is not sound; and set_up_lem gives the one or the other.
+-- A new record is sound, and of the right lengths; the all-zero record is not sound; and set-up gives the one or the other.
 --
--- In order: the lengths; the clauses of a sound record; the all-zero record; set_up_lem.
+-- In order: the lengths; the clauses of a sound record; the all-zero record; set-up.
 -- Assumes nothing.
 use Rattle.std.specs.Prelude.{◌≡◌, refl, Bool, true, false, not, ltb, replicate}
 use Rattle.std.proofs.Common.{sym, ◌∙◌}
@@ -81,7 +81,7 @@ unused u =
     (all_below_all (λ m. ltb m u.n or sender_zero (new_record u) m) 10 (λ m l.
     or_right (ltb m u.n) (sender_zero (new_record u) m) (all_below_at (sender_zero (new_record u)) 10 m (senders u) l)))
 
--- What an accepted set_up_lem gives is sound.
+-- What an accepted set-up gives is sound.
 pub new_sound : (u : SetUp) → group_keeps u ≡ true → numbers_keep u ≡ true → sound (new_record u) ≡ true
 unfolding new_record zero_slot setup_keeps exponents_below slot_below matrices_differ matrices_pass marks_keep places_keep use_keeps dealt_keeps all_below any_below count_below
 new_sound u g n =
@@ -108,12 +108,12 @@ pub zero_unsound : sound zero_record ≡ false
 unfolding zero_record new_record sound setup_keeps group_keeps
 zero_unsound = refl
 
--- ---- set_up_lem
+-- ---- set-up
 
 twice : (b : Bool) → not (not b) ≡ true → b ≡ true
 twice b h = not-false b (not-true (not b) h)
 
--- An accepted set_up_lem gives a sound record of the right lengths.
+-- An accepted set-up gives a sound record of the right lengths.
 pub set_up_sound : (u : SetUp) → (set_up u).answer.no ≡ 0 → (sound (set_up u).next ≡ true) × Shaped (set_up u).next
 unfolding set_up outcome_of accepted set_up_rows none
 set_up_sound u e =

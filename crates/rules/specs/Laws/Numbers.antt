@@ -1,6 +1,6 @@
 -- What the rules of document 01's "Numbers" come to, once their tests pass.
 --
--- In order: the sizes n, t, k; boxes, and a whole set_up_lem; the echo quorum; the rows of the table of groups.
+-- In order: the sizes n, t, k; boxes, and a whole set-up; the echo quorum; the rows of the table of groups.
 -- Assumes nothing.
 use Rattle.std.specs.Prelude.{◌≡◌, refl, Bool, true, ℕ, ◌+◌, ◌*◌, ◌-◌, ◌%◌, ◌^◌, ◌≤◌, ◌<◌, eqb, leb, ltb, get_or}
 use Rattle.std.proofs.Common.{⊎_elim, arith, leb-true, ltb-true, eqb-true, le-leb}
@@ -34,7 +34,7 @@ sizes n t k h =
     let d = leb-true k (n - 2 * t) (and_right (ltb t k) _ h2) in
     record { boxes = a; faults = b; above = c; rest = omega arith; low = omega arith; high = omega arith }
 
--- ---- a whole set_up_lem
+-- ---- a whole set-up
 
 pub record Bounds (u : SetUp) : Type 0 where
   pub sizes : Sizes u.n u.t u.k
@@ -52,7 +52,7 @@ pub box_is : (u : SetUp) (m : ℕ) → 1 ≤ m → m ≤ u.n → is_box u m ≡ 
 unfolding is_box
 box_is u m a b = and_intro (leb 1 m) _ (le-leb 1 m a) (le-leb m u.n b)
 
--- A set_up_lem whose numbers pass is within the bounds of each.
+-- A set-up whose numbers pass is within the bounds of each.
 pub bounds : (u : SetUp) → numbers_keep u ≡ true → Bounds u
 unfolding numbers_keep
 bounds u h =
@@ -144,7 +144,7 @@ in_table u h =
     (λ e. let q = eqb-true u.group 2 e in omega arith)
     (or_cases (eqb u.group 1) (eqb u.group 2) h)
 
--- The group of a set_up_lem whose group number passes keeps the rule.
+-- The group of a set-up whose group number passes keeps the rule.
 pub group_rule : (u : SetUp) → group_keeps u ≡ true → GroupRule (group_of u.group)
 unfolding group_of
 group_rule u h = table_rule (u.group - 1) (in_table u h)
@@ -183,7 +183,7 @@ unfolding group_of
 group_sizes u h =
     in_range_lem (group_of u.group) (all_below_at (λ i. in_range (get_or groups i no_group)) 2 (u.group - 1) rows_in_range (in_table u h))
 
--- How large set_up_lem numbers that keep their rules are, and the numbers of their group: what code asks of them.
+-- How large set-up numbers that keep their rules are, and the numbers of their group: what code asks of them.
 pub record Ranges (u : SetUp) : Type 0 where
   pub group : group_keeps u ≡ true
   pub numbers : GroupRanges (group_of u.group)

@@ -33,7 +33,7 @@ use Rattle.rules.specs.Laws.Checks.{entry_below, four_lows, pair_lows}
 use Rattle.rules.specs.Laws.Shape.{ShapedSlot}
 use Rattle.rules.specs.Laws.RoundTrip.{MatrixFits, PolynomialFits, PolynomialsFit, FourFits, PairFits, matrix-fits, polynomial_fits}
 
--- for set_up_lem numbers whose group keeps its rule, with k ≤ 8
+-- for set-up numbers whose group keeps its rule, with k ≤ 8
 module _ (u : SetUp) (keeps : group_keeps u ≡ true) (high : u.k ≤ 8) where
   abbrev group : Group
   group = group_of u.group

@@ -118,7 +118,7 @@ module _ (s : List ℕ) where
 
 -- ---- messages in range
 
--- the set_up_lem numbers that stand in a message have room there
+-- the set-up numbers that stand in a message have room there
 pub record SetUpFits (u : SetUp) : Type 0 where
   pub k : u.k ≤ 8
   pub d : u.d < 256

@@ -178,7 +178,7 @@ module _ (x : Record) (c : Clauses x) where
 pub sound_facts : (x : Record) → sound x ≡ true → Facts x
 sound_facts x h = facts_of x (clauses x h)
 
--- Its set_up_lem numbers are small.
+-- Its set-up numbers are small.
 pub sound_ranges : (x : Record) → sound x ≡ true → Ranges x.setup
 sound_ranges x h = let c = sound_facts x h in ranges x.setup c.group c.numbers
 

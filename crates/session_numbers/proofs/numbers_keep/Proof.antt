@@ -1,4 +1,4 @@
--- `numbers_keep_lem` is the test that refusal 12 does not hold of a set_up_lem: each call gives one part of the test.
+-- `numbers_keep_lem` is the test that refusal 12 does not hold of a set-up: each call gives one part of the test.
 -- Assumes nothing.
 use mathlib.Core.Path.{◌≡◌}
 use mathlib.Core.Bool.{true}

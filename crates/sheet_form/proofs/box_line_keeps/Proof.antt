@@ -4,7 +4,7 @@ use Prim.Native.Nat.{◌+◌}
 use native.Mathlib.Omega.{arith}
 use borrow.Author.Rules.{rules}
 use borrow.Author.Tests.{not-true, not-false}
-use Rattle.folds.specs.Tests.{◌or◌, or_left, failed, passed}
+use Rattle.folds.specs.Tests.{◌or◌, or_left}
 use Rattle.rules.specs.Text.{text, space, word_at, numbers_at}
 use Rattle.rules.specs.Sheet.{box_line_keeps}
 use Rattle.text.specs.Decimals.{byte_within}
@@ -31,7 +31,7 @@ says c =
     let found = read (stands c) in
     let given = (start found).args in
     then_says given.b.now given.i given.m found.decimal_at-x.ensures (not-false _ (stands c).if-not-x.false) c.before.before.if-x-m.false
-    (passed c.before.byte_at.ensures c.if-not-byte_at.false)
+    (sym c.before.byte_at.ensures ∙ c.if-not-byte_at.false)
 
 returns : tie.Need-decimal_at-x-requires
 returns c =
@@ -52,13 +52,13 @@ returns-3 c =
     let given = (start (read number)).args in
     sym
     (no_space given.b.now given.i given.m (read number).decimal_at-x.ensures (not-false _ number.if-not-x.false) same.if-x-m.false
-    (failed c.before.byte_at.ensures c.if-not-byte_at.true))
+    (sym c.before.byte_at.ensures ∙ c.if-not-byte_at.true))
 
 add-says : tie.Need-returns-then-not-byte_at
 add-says c =
     let spaced = c.before in
     let found = read (stands spaced) in
-    omega (arith, byte_within (start found).args.b.now found.decimal_at-x.result.end space (passed spaced.before.byte_at.ensures spaced.if-not-byte_at.false))
+    omega (arith, byte_within (start found).args.b.now found.decimal_at-x.result.end space (sym spaced.before.byte_at.ensures ∙ spaced.if-not-byte_at.false))
 
 returns-4 : tie.Need-returns-then-word_at
 unfolding text

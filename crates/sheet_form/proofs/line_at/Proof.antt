@@ -26,7 +26,7 @@ pair c =
     let read = found c.before in
     let given = (start read).args in
     ap (λ n. numbers_at given.b.now (n + 1) 2) read.digits_end-says.ensures
-    ∙ (box_line_lem given.b.now given.i given.m (start read).pre).pair (sym (silent c.before) ∙ c.if-word_at.false)
+    ∙ (box_line_lem given.b.now given.i given.m (start read).requires).pair (sym (silent c.before) ∙ c.if-word_at.false)
 
 add-says : tie.Need-digits_end-says-requires
 add-says c =

@@ -7,7 +7,6 @@ use native.Mathlib.Omega.{arith}
 use lib.Dec.{eqb}
 use lib.ListN.{length}
 use borrow.Author.Rules.{rules}
-use Rattle.folds.specs.Tests.{failed, passed}
 use Rattle.folds.specs.Below.{all_below, all_below-zero, all_below_more, all_below_not}
 use Rattle.rules.specs.Text.{numbers_at}
 use Rattle.rules.specs.Sheet.{matrix_place, boxes_place, next_line, line_place, box_line_keeps, rest_keeps}
@@ -48,12 +47,12 @@ line c =
 
 returns : tie.Need-returns-then-not-numbers_at invariant-loop-m decreases-loop-m
 unfolding rest_keeps
-returns c = rw (failed (tested c.before) c.if-not-numbers_at.true)
+returns c = rw (sym (tested c.before) ∙ c.if-not-numbers_at.true)
 
 boxes-place-requires : tie.Need-boxes_place-i-requires invariant-loop-m decreases-loop-m
 boxes-place-requires c κs =
     let given = start c.before in
-    record { first = given.pre.keeps; high = given.pre.high; stand = passed (tested c.before) c.if-not-numbers_at.false }
+    record { first = given.requires.keeps; high = given.requires.high; stand = sym (tested c.before) ∙ c.if-not-numbers_at.false }
 
 returns-2 : tie.Need-returns-then-not-box_line_keeps invariant-loop-m decreases-loop-m
 unfolding rest_keeps
@@ -62,14 +61,14 @@ returns-2 c =
     let passes = entered turn.before in
     let given = (start passes.before).args in
     rw
-    (passed (tested passes.before) passes.if-not-numbers_at.left, all_below_not (line_keeps given.b.now given.k) given.n turn.before.loop-m.m turn.loop-m-test.true (failed (line c.before) c.if-not-box_line_keeps.true))
+    (sym (tested passes.before) ∙ passes.if-not-numbers_at.false, all_below_not (line_keeps given.b.now given.k) given.n turn.before.loop-m.m turn.loop-m-test.true (sym (line c.before) ∙ c.if-not-box_line_keeps.true))
 
 loop-again : tie.Need-loop-m-preserved invariant-loop-m decreases-loop-m
 loop-again c =
     let loop = c.before.before.before.before.loop-m in (
       omega arith,
       c.line_at-line.ensures.1 ∙ ap (next_line _) loop.invariant.1 ∙ sym (line_place_more _ _ loop.m),
-      all_below_more _ loop.m loop.invariant.2 (passed (line c.before.before) c.before.if-not-box_line_keeps.false),
+      all_below_more _ loop.m loop.invariant.2 (sym (line c.before.before) ∙ c.before.if-not-box_line_keeps.false),
     )
 
 returns-3 : tie.Need-returns invariant-loop-m decreases-loop-m
@@ -79,7 +78,7 @@ returns-3 c =
     let passes = entered c.before in
     let given = (start passes.before).args in
     let all : loop.m ≡ given.n = omega arith in
-    rw (passed (tested passes.before) passes.if-not-numbers_at.left, rw all at loop.invariant.2) (ap (λ p. eqb p (length given.b.now)) (rw all at loop.invariant.1))
+    rw (sym (tested passes.before) ∙ passes.if-not-numbers_at.false, rw all at loop.invariant.2) (ap (λ p. eqb p (length given.b.now)) (rw all at loop.invariant.1))
 
 pub rest_keeps_spec : {M : Type 1} → statement M
 rest_keeps_spec =
@@ -95,7 +94,7 @@ rest_keeps_spec =
     (λ c. (omega arith, c.boxes_place-i.ensures ∙ sym (line_place-zero _ _), all_below-zero _))
     (λ c κs. search rules)
     returns-2
-    (λ c κs. passed c.before.box_line_keeps.ensures c.if-not-box_line_keeps.false)
+    (λ c κs. sym c.before.box_line_keeps.ensures ∙ c.if-not-box_line_keeps.false)
     (λ c. search rules)
     (λ c. search rules)
     loop-again

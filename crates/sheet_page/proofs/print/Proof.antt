@@ -7,7 +7,6 @@ use Prim.Native.Nat.{ℕ, ◌≤◌}
 use lib.ListN.{length}
 use borrow.Author.Rules.{rules}
 use borrow.Author.Tests.{lt-ltb, le-ltb}
-use Rattle.folds.specs.Tests.{failed, passed}
 use Rattle.rules.specs.Numbers.{group_keeps, sizes_keep}
 use Rattle.rules.specs.Text.{text}
 use Rattle.rules.specs.Sheet.{sheet_set_up, first_line_keeps, body_printed, printed, page, Prints}
@@ -28,9 +27,9 @@ abbrev sized : tie.Else-not-first_line_keeps → tie.Else-page-lt-PAGE
 sized c = c.before.before
 
 first-passed : (c : tie.Else-not-first_line_keeps) → first_line_keeps (start (sized c)).args.b.now ≡ true
-first-passed c = passed c.before.first_line_keeps.ensures c.if-not-first_line_keeps.false
+first-passed c = sym c.before.first_line_keeps.ensures ∙ c.if-not-first_line_keeps.false
 
--- what the tests of the set_up_lem numbers say, of the sheet's
+-- what the tests of the set-up numbers say, of the sheet's
 abbrev first : tie.After-sizes_keep-sized → tie.Else-not-first_line_keeps
 first c = c.before.before.before
 
@@ -54,7 +53,7 @@ returns-2 c =
     let test = c.before.before.before.before.before in
     let lent = test.before.before in
     prints (start lent).args.b.now (start lent).args.page.now (text "bad sheet\n") lent.if-page-lt-PAGE.false
-    (rw (failed test.before.first_line_keeps.ensures test.if-not-first_line_keeps.true))
+    (rw (sym test.before.first_line_keeps.ensures ∙ test.if-not-first_line_keeps.true))
     c.before.before.print_only.ensures
 
 returns-3 : tie.Need-shape_of-page-then-not-grouped
@@ -63,7 +62,7 @@ returns-3 c =
     let group = c.before.before.before.before.before in
     let tests = group.before in
     prints (given tests).args.b.now (given tests).args.page.now (text "refused 11\n") (sized (first tests)).if-page-lt-PAGE.false
-    (rw (first-passed (first tests), failed (of-sheet-group tests) group.if-not-grouped.true))
+    (rw (first-passed (first tests), sym (of-sheet-group tests) ∙ group.if-not-grouped.true))
     c.before.before.print_only-then-not-grouped.ensures
 
 returns-4 : tie.Need-returns-then-not-sized
@@ -72,7 +71,7 @@ returns-4 c =
     let sizes = c.before.before.before.before.before in
     let tests = sizes.before.before in
     prints (given tests).args.b.now (given tests).args.page.now (text "refused 12\n") (sized (first tests)).if-page-lt-PAGE.false
-    (rw (first-passed (first tests), passed (of-sheet-group tests) sizes.before.if-not-grouped.false, failed (of-sheet-sizes tests) sizes.if-not-sized.true))
+    (rw (first-passed (first tests), sym (of-sheet-group tests) ∙ sizes.before.if-not-grouped.false, sym (of-sheet-sizes tests) ∙ sizes.if-not-sized.true))
     c.before.before.print_only-then-not-sized.ensures
 
 print-body-requires : tie.Need-print_body-requires
@@ -80,8 +79,8 @@ print-body-requires c κs =
     let tests = c.before.before.before in
     record {
       first = first-passed (first tests);
-      group = passed tests.before.group_keeps-grouped.ensures c.before.before.if-not-grouped.false;
-      sizes = passed tests.sizes_keep-sized.ensures c.before.if-not-sized.false;
+      group = sym tests.before.group_keeps-grouped.ensures ∙ c.before.before.if-not-grouped.false;
+      sizes = sym tests.sizes_keep-sized.ensures ∙ c.before.if-not-sized.false;
       room = (sized (first tests)).if-page-lt-PAGE.false;
     }
 
@@ -92,7 +91,7 @@ returns-5 c =
     let tests = sizes.before.before in
     let read = tests.before.before.set_up-u in
     prints (given tests).args.b.now (given tests).args.page.now (body_printed (given tests).args.b.now read.result) (sized (first tests)).if-page-lt-PAGE.false
-    (rw (first-passed (first tests), passed (of-sheet-group tests) sizes.before.if-not-grouped.false, passed (of-sheet-sizes tests) sizes.if-not-sized.false)
+    (rw (first-passed (first tests), sym (of-sheet-group tests) ∙ sizes.before.if-not-grouped.false, sym (of-sheet-sizes tests) ∙ sizes.if-not-sized.false)
     (ap (body_printed (given tests).args.b.now) (sym read.ensures)))
     c.before.before.print_body.ensures
 

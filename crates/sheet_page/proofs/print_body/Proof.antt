@@ -1,9 +1,9 @@
 -- `print_body` prints the sheet of a group and sizes that keep their rules: a line for the form, a line for the matrix, or
 -- what the sheet recovers. Assumes nothing.
+use Rattle.std.proofs.Common.{sym}
 use mathlib.Core.Path.{◌≡◌, ap₂, ◌∙◌}
 use native.Mathlib.Omega.{arith}
 use borrow.Author.Rules.{rules}
-use Rattle.folds.specs.Tests.{failed, passed}
 use Rattle.rules.specs.Numbers.{group_of}
 use Rattle.rules.specs.Dealing.{matrix_passes}
 use Rattle.rules.specs.Text.{text}
@@ -25,7 +25,7 @@ abbrev start : tie.Else-not-rest_keeps → tie.Start
 start c = c.before.before.before.before.before.before
 
 whole : (c : tie.Else-not-rest_keeps) → let given = (start c).args in Whole given.b.now given.u.n given.u.k
-whole c = record { line = line (start c); rest = passed c.before.rest_keeps.ensures c.if-not-rest_keeps.false }
+whole c = record { line = line (start c); rest = sym c.before.rest_keeps.ensures ∙ c.if-not-rest_keeps.false }
 
 -- what the test of the matrix says, of the sheet's group and matrix
 abbrev form : tie.After-matrix_passes → tie.Else-not-rest_keeps
@@ -42,36 +42,36 @@ returns : tie.Need-shape_of-page-then-not-rest_keeps
 unfolding body_printed text
 returns c =
     let test = c.before.before.before.before.before in
-    rw (failed test.before.rest_keeps.ensures test.if-not-rest_keeps.true) c.before.before.print_only.ensures
+    rw (sym test.before.rest_keeps.ensures ∙ test.if-not-rest_keeps.true) c.before.before.print_only.ensures
 
 matrix-passes-requires : tie.Need-matrix-c-requires
 matrix-passes-requires c κs =
     let given = start c.before.before in
-    (rw c.before.Group-of.ensures (group_sizes given.args.u given.pre.group).modulus, (line given).high)
+    (rw c.before.Group-of.ensures (group_sizes given.args.u given.requires.group).modulus, (line given).high)
 
 returns-2 : tie.Need-returns-then-not-matrix_passes
 unfolding body_printed text
 returns-2 c =
     let matrix = c.before.before.before.before.before in
-    rw ((whole (form matrix.before)).rest, failed (tested matrix.before) matrix.if-not-matrix_passes.true) c.before.before.print_only-then-not-matrix_passes.ensures
+    rw ((whole (form matrix.before)).rest, sym (tested matrix.before) ∙ matrix.if-not-matrix_passes.true) c.before.before.print_only-then-not-matrix_passes.ensures
 
 print-lines-requires : tie.Need-print_lines-requires
 print-lines-requires c κs =
     let matrix = c.before.before in
     let given = start (form matrix.before) in
-    let s = sizes _ _ _ given.pre.sizes in
-    let G = group_sizes given.args.u given.pre.group in
+    let s = sizes _ _ _ given.requires.sizes in
+    let G = group_sizes given.args.u given.requires.group in
     let e = matrix.before.before.before.Group-of.ensures in
     record {
       checkable = record {
         modulus = rw e G.modulus;
         order = rw e (omega (arith, G.above));
         high = s.high;
-        passes = passed matrix.before.matrix_passes.ensures matrix.if-not-matrix_passes.false;
+        passes = sym matrix.before.matrix_passes.ensures ∙ matrix.if-not-matrix_passes.false;
       };
       order = rw e (omega (arith, G.above));
       boxes = s.boxes;
-      room = given.pre.room;
+      room = given.requires.room;
     }
 
 returns-3 : tie.Need-returns
@@ -80,7 +80,7 @@ returns-3 c =
     let shares = c.before.before.before.before in
     let matrix = shares.before in
     let read = matrix.before.before in
-    rw ((whole (form matrix.before)).rest, passed (tested matrix.before) matrix.if-not-matrix_passes.false)
+    rw ((whole (form matrix.before)).rest, sym (tested matrix.before) ∙ matrix.if-not-matrix_passes.false)
     (rw (shares.shares-shares.ensures, read.matrix-c.ensures, read.before.Group-of.ensures) at c.before.before.print_lines.ensures)
 
 pub print_body_spec : {M : Type 1} → statement M

@@ -45,7 +45,7 @@ returns-3 c =
     rw (
       sym (known word).form_of-form.ensures,
       sym count.count_items-m.ensures,
-      le-ltb _ _ word.if-form.left,
+      le-ltb _ _ word.if-form.false,
       le-ltb _ _ least.if-m-form.false,
       lt-ltb _ _ c.if-form-m.true,
     )
@@ -77,7 +77,7 @@ items-right c =
       sym (known word).form_of-form.ensures,
       sym count.count_items-m.ensures,
       sym c.bad_item-j.ensures,
-      le-ltb _ _ word.if-form.left,
+      le-ltb _ _ word.if-form.false,
       le-ltb _ _ (few most).if-m-form.false,
       le-ltb _ _ most.if-form-m.false,
     )

@@ -14,7 +14,7 @@ command-requires c κs =
     let told = c.before.before.before in
     let tested = told.before.before in
     let given = start tested in
-    record { lent = given.pre; formed = judged_formed given.args.line.now _ (sym tested.judge-judged.ensures ∙ told.judged-in-Takes-1.given.1) }
+    record { lent = given.requires; formed = judged_formed given.args.line.now _ (sym tested.judge-judged.ensures ∙ told.judged-in-Takes-1.given.1) }
 
 returns : tie.Need-returns-in-Quiet
 returns c =

@@ -34,8 +34,8 @@ read-hex-requires c κs =
     let line = from.args.line.now in
     let place = item_place line from.args.j in
     let n = width found in (
-      ap₂ (hex_at line) found.before.item_place-from.ensures n ∙ hex_stands_lem line place from.pre.keeps,
-      omega (arith, n, bytes_few line place from.pre.item.short, from.pre.room),
+      ap₂ (hex_at line) found.before.item_place-from.ensures n ∙ hex_stands_lem line place from.requires.keeps,
+      omega (arith, n, bytes_few line place from.requires.item.short, from.requires.room),
     )
 
 returns : tie.Need-returns

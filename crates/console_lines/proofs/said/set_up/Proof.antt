@@ -1,4 +1,4 @@
--- `set_up` is the seven numbers of a set_up_lem. Assumes nothing.
+-- `set_up` is the seven numbers of a set-up. Assumes nothing.
 use borrow.Author.Rules.{rules}
 use Rattle.console_lines.specs.Says.{set_up_of}
 use Rattle.console_lines.proofs.said.set_up.Statement.{statement}

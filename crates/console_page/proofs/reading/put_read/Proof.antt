@@ -11,7 +11,7 @@ use Rattle.console_page.specs.Widths.{width_formed}
 use Rattle.console_page.proofs.reading.put_read.Statement.{statement}
 use Rattle.console_page.proofs.reading.put_read.Tie as tie
 
--- the set_up_lem of the k that was found, one of the seven
+-- the set-up of the k that was found, one of the seven
 width_is : (c : tie.After-of_width)
     → let s = c.before.before.before.before.before.before.args.s.now in (c.of_width.result ≡ of_width (width_in s)) × (width_in s ≤ 8)
 width_is c =

@@ -56,7 +56,7 @@ put-point-requires c κs =
     let second = c.before.before in
     let tag = second.if-tag-eq2.true in
     let begin = start second.before in
-    (begin.pre.0, point_long (form begin) second.before.if-tag-eq1.false (λ e. let w : ⊥ = omega arith in w), omega arith)
+    (begin.requires.0, point_long (form begin) second.before.if-tag-eq1.false (λ e. let w : ⊥ = omega arith in w), omega arith)
 
 returns-2 : tie.Need-shape_of-page-then-tag-eq2
 unfolding message_text text
@@ -74,7 +74,7 @@ put-point-requires-2 c κs =
     let tag = third.if-tag-eq3.true in
     let first = third.before.before in
     let begin = start first in
-    (begin.pre.0, point_long (form begin) first.if-tag-eq1.false (λ e. let w : ⊥ = omega arith in w), omega arith)
+    (begin.requires.0, point_long (form begin) first.if-tag-eq1.false (λ e. let w : ⊥ = omega arith in w), omega arith)
 
 returns-3 : tie.Need-returns-then-tag-eq3
 unfolding message_text text

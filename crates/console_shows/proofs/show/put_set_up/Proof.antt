@@ -1,4 +1,4 @@
--- `put_set_up` puts the line of the set_up_lem numbers. Assumes nothing.
+-- `put_set_up` puts the line of the set-up numbers. Assumes nothing.
 use mathlib.Core.List.{◌++◌}
 use borrow.Author.Rules.{rules}
 use Rattle.rules.specs.Text.{text}

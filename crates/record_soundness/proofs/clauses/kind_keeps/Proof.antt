@@ -67,7 +67,7 @@ loop-again c =
     let n = c.before.before.marked_under-n.result in
     let kept : counted n (marked a.t2 m) ≡ true =
     ⊎_elim
-    (λ w. let heard : marked a.t2 m ≡ true = not-false _ w.2.left in rw (w.0.taken, heard))
+    (λ w. let heard : marked a.t2 m ≡ true = not-false _ w.2.false in rw (w.0.true, heard))
     (λ w. let none : n ≡ 0 = omega arith in rw none)
     c.if-n-eq1.branch in
     all_below_more (passes a.marks a.t2) m head.loop-m.invariant

@@ -26,7 +26,7 @@ loop-again : tie.Need-loop-s-preserved invariant-loop-s decreases-loop-s
 loop-again c =
     let turn = c.before.before.before in
     let next = counted_more _ 20 _ turn.loop-s-test.true turn.before.loop-s.invariant in
-    ⊎_elim (λ w. next.0 w.0.taken w.1) (λ w. next.1 w.0.left w.1) c.if-here-m.branch
+    ⊎_elim (λ w. next.0 w.0.true w.1) (λ w. next.1 w.0.false w.1) c.if-here-m.branch
 
 returns : tie.Need-returns invariant-loop-s decreases-loop-s
 unfolding marked_under

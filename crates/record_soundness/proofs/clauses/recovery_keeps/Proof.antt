@@ -31,8 +31,8 @@ done c =
     let commanded = (given c).progress-1.commanded in
     let needed : Bool → Bool = λ b. implies b (is_done (given c).progress-1.completion) in
     ⊎_elim
-    (λ w. w.1 ∙ w.0.taken ∙ sym (ap needed (not-true commanded w.0.taken)))
-    (λ w. w.2 ∙ w.1.ensures ∙ sym (ap needed (not-false commanded w.0.left)))
+    (λ w. w.1 ∙ w.0.true ∙ sym (ap needed (not-true commanded w.0.true)))
+    (λ w. w.2 ∙ w.1.ensures ∙ sym (ap needed (not-false commanded w.0.false)))
     c.if-not-progress.branch
 
 -- all but the last test
@@ -53,12 +53,12 @@ most c =
     let few = leb (shares_kept x.shares-1) k and there in
     let shares = shares_keep q x.progress-1.commanded (get_or x.heard-1 3 no_marks) x.shares-1 in
     let s1 = ap (λ (b : Bool). b and shares and few) (sym (done first)) in
-    let s2 = chain few s1 (⊎_map (λ w. (w.0.taken, w.2 ∙ w.1.ensures)) (λ w. (w.0.left, w.1)) second.if-is_done.branch) in
-    let s3 = chain there s2 (⊎_map (λ w. (w.0.taken, w.2 ∙ ap (λ (n : ℕ). leb n k) count.ensures)) (λ w. (w.0.left, w.1)) third.if-shares_keep.branch) in
+    let s2 = chain few s1 (⊎_map (λ w. (w.0.true, w.2 ∙ w.1.ensures)) (λ w. (w.0.false, w.1)) second.if-is_done.branch) in
+    let s3 = chain there s2 (⊎_map (λ w. (w.0.true, w.2 ∙ ap (λ (n : ℕ). leb n k) count.ensures)) (λ w. (w.0.false, w.1)) third.if-shares_keep.branch) in
     chain below s3
     (⊎_map
-    (λ w. (w.0.taken, w.2 ∙ beq_same first.before.before.is_there-given.result (eqb count.result k) ∙ ap₂ same first.before.before.is_there-given.ensures (ap (λ (n : ℕ). eqb n k) count.ensures)))
-    (λ w. (w.0.left, w.1))
+    (λ w. (w.0.true, w.2 ∙ beq_same first.before.before.is_there-given.result (eqb count.result k) ∙ ap₂ same first.before.before.is_there-given.ensures (ap (λ (n : ℕ). eqb n k) count.ensures)))
+    (λ w. (w.0.false, w.1))
     c.if-n-u.branch)
 
 pub recovery_keeps_spec : {M : Type 1} → statement M

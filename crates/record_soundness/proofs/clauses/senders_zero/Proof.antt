@@ -1,5 +1,6 @@
 -- `senders_zero` is the test that nothing of a sender above n is there. The loop's invariant: number is m, and each sender
 -- before m passed. Assumes nothing.
+use Rattle.std.proofs.Common.{sym, ◌∙◌}
 use mathlib.Core.Path.{◌≡◌}
 use mathlib.Core.Bool.{Bool, true}
 use mathlib.Core.Logic.{⊎_elim}
@@ -8,7 +9,7 @@ use native.Mathlib.Omega.{arith}
 use lib.Dec.{ltb}
 use borrow.Author.Rules.{rules}
 use Rattle.folds.specs.Found.{found3}
-use Rattle.folds.specs.Tests.{◌or◌, failed, passed}
+use Rattle.folds.specs.Tests.{◌or◌}
 use Rattle.folds.specs.Loops.{all_fails, all_passed}
 use borrow.Author.Tests.{lt-ltb, le-ltb}
 use Rattle.folds.specs.Below.{all_below, all_below-zero, all_below_more}
@@ -34,7 +35,7 @@ returns c =
     let x = turn.before.before.before.args.x in
     let m = turn.before.loop-m.m in
     let above : x.setup.n ≤ m = omega arith in
-    all_fails (passes x) 10 m turn.loop-m-test.true (rw (le-ltb m x.setup.n above) (failed c.before.sender_zero.ensures c.if-not-sender_zero.true))
+    all_fails (passes x) 10 m turn.loop-m-test.true (rw (le-ltb m x.setup.n above) (sym c.before.sender_zero.ensures ∙ c.if-not-sender_zero.true))
 
 loop-again : tie.Need-loop-m-preserved invariant-loop-m decreases-loop-m
 loop-again c =
@@ -45,10 +46,10 @@ loop-again c =
       all_below_more (passes x) m head.loop-m.invariant.1
           (⊎_elim
           (λ w.
-          let above : x.setup.n ≤ m = omega (arith, w.0.taken) in
-          rw (le-ltb m x.setup.n above) (passed w.1.ensures w.2.left))
+          let above : x.setup.n ≤ m = omega (arith, w.0.true) in
+          rw (le-ltb m x.setup.n above) (sym w.1.ensures ∙ w.2.false))
           (λ w.
-          let below : m < x.setup.n = omega (arith, w.left) in
+          let below : m < x.setup.n = omega (arith, w.false) in
           rw (lt-ltb m x.setup.n below))
           c.if-u-number.branch),
     )

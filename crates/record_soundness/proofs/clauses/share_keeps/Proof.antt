@@ -17,7 +17,7 @@ most c =
     let a = c.before.before.before.before.args in
     let kept = c.before.before.kept-1 in
     chain (pair_below a.q kept.given.0.0) (ap (share_keeps a.q a.commanded a.heard) kept.given.1)
-    (⊎_map (λ w. (w.0.taken, w.1)) (λ w. (w.0.left, w.1)) c.if-heard.branch)
+    (⊎_map (λ w. (w.0.true, w.1)) (λ w. (w.0.false, w.1)) c.if-heard.branch)
 
 pub share_keeps_spec : {M : Type 1} → statement M
 share_keeps_spec =

@@ -21,7 +21,7 @@ most c =
     let m = (start c).args.m in
     chain (not (marked slot.readied-1 m))
     (ap (λ (b : Bool). not b and not (marked slot.echoed-1 m) and not (marked slot.readied-1 m)) (sym c.before.is_held.ensures))
-    (⊎_map (λ w. (w.0.taken, w.2)) (λ w. (w.0.left, w.1)) c.if-not-is_held.branch)
+    (⊎_map (λ w. (w.0.true, w.2)) (λ w. (w.0.false, w.1)) c.if-not-is_held.branch)
 
 pub slot_clear_spec : {M : Type 1} → statement M
 slot_clear_spec =

@@ -1,11 +1,11 @@
 -- `slots_clear` is the test that nothing of a sender stands in any slot. The loop's invariant: nothing stands in those before
 -- s. Assumes nothing.
+use Rattle.std.proofs.Common.{sym, ◌∙◌}
 use mathlib.Core.Path.{◌≡◌}
 use mathlib.Core.Bool.{true}
 use Prim.Native.Nat.{◌-◌}
 use borrow.Author.Rules.{rules}
 use Rattle.folds.specs.Found.{found3}
-use Rattle.folds.specs.Tests.{failed, passed}
 use Rattle.folds.specs.Below.{all_below, all_below-zero, all_below_more}
 use Rattle.folds.specs.Loops.{all_fails, all_passed}
 use Rattle.record_reading.specs.Slots.{slot_in}
@@ -22,10 +22,10 @@ decreases-loop-s m slots s₀ s = 20 - s
 
 returns : tie.Need-returns-then-not-slot_clear invariant-loop-s decreases-loop-s
 unfolding every_slot
-returns c = all_fails _ _ _ c.before.before.before.loop-s-test.true (failed c.before.slot_clear.ensures c.if-not-slot_clear.true)
+returns c = all_fails _ _ _ c.before.before.before.loop-s-test.true (sym c.before.slot_clear.ensures ∙ c.if-not-slot_clear.true)
 
 loop-again : tie.Need-loop-s-preserved invariant-loop-s decreases-loop-s
-loop-again c = all_below_more _ _ c.before.before.before.before.loop-s.invariant (passed c.before.slot_clear.ensures c.if-not-slot_clear.false)
+loop-again c = all_below_more _ _ c.before.before.before.before.loop-s.invariant (sym c.before.slot_clear.ensures ∙ c.if-not-slot_clear.false)
 
 returns-2 : tie.Need-returns invariant-loop-s decreases-loop-s
 unfolding every_slot

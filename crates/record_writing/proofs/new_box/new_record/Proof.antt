@@ -1,4 +1,4 @@
--- `new_record` is the record of a new box with these set_up_lem numbers. Assumes nothing.
+-- `new_record` is the record of a new box with these set-up numbers. Assumes nothing.
 use borrow.Author.Rules.{rules}
 use Rattle.rules.specs.Record.{new_record}
 use Rattle.record_writing.proofs.new_box.new_record.Statement.{statement}

@@ -5,7 +5,6 @@ use native.Mathlib.Omega.{arith}
 use lib.ListN.{length, take}
 use lib.Seq.{length-take-le}
 use borrow.Author.Rules.{rules}
-use Rattle.folds.specs.Tests.{failed, passed}
 use Rattle.rules.specs.Sheet.{first_line_keeps, rest_keeps}
 use Rattle.sheet_reasons.specs.Lines.{line_start_le}
 use Rattle.sheet_reasons.specs.Reasons.{front, front_keeps}
@@ -29,13 +28,13 @@ tested c =
 
 returns : tie.Need-returns-then-not-first_line_keeps
 unfolding front_keeps
-returns c = rw (failed (tested c.before) c.if-not-first_line_keeps.true)
+returns c = rw (sym (tested c.before) ∙ c.if-not-first_line_keeps.true)
 
 rest-keeps-requires : tie.Need-rest_keeps-requires
 rest-keeps-requires c κs =
     let test = c.before in
     let pre = (start test.before.before.before).requires in
-    record { keeps = passed test.before.first_line_keeps.ensures test.if-not-first_line_keeps.false; boxes = pre.1; high = pre.0 }
+    record { keeps = sym test.before.first_line_keeps.ensures ∙ test.if-not-first_line_keeps.false; boxes = pre.1; high = pre.0 }
 
 returns-2 : tie.Need-returns
 unfolding front_keeps
@@ -43,7 +42,7 @@ returns-2 c =
     let test = c.before.before in
     let cut = test.before.before.before in
     let given = (start cut).args in
-    rw (passed (tested test.before) test.if-not-first_line_keeps.false)
+    rw (sym (tested test.before) ∙ test.if-not-first_line_keeps.false)
     (c.rest_keeps.ensures ∙ ap (λ e. rest_keeps (take e given.b.now) given.m given.k) cut.line_start-end.ensures)
 
 pub front_keeps_spec : {M : Type 1} → statement M

@@ -38,7 +38,7 @@ own-reason-requires c κs =
         size = small good;
         place = omega (arith, c.line_start-i.ensures, line_start_le given.args.b.now (good.good_lines-m.result + 1));
       },
-      given.pre.high,
+      given.requires.high,
     )
 
 returns-2 : tie.Need-returns

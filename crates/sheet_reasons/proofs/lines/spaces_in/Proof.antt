@@ -46,7 +46,7 @@ loop-again c =
     let turn = c.before.before in
     let next = counted_more _ _ _ turn.loop-j-test.true turn.before.loop-j.invariant in
     let test = sym c.before.byte_at.ensures in
-    ⊎_elim (λ w. next.0 (test ∙ w.0.taken) w.1) (λ w. next.1 (test ∙ w.0.left) w.1) c.if-byte_at.branch
+    ⊎_elim (λ w. next.0 (test ∙ w.0.true) w.1) (λ w. next.1 (test ∙ w.0.false) w.1) c.if-byte_at.branch
 
 returns-2 : tie.Need-returns invariant-loop-j decreases-loop-j
 unfolding spaces_in

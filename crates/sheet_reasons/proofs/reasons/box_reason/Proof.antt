@@ -67,7 +67,7 @@ returns c = rw (sym c.before.other_box.ensures ∙ c.if-other_box.true)
 add-says : tie.Need-first_word-says-requires
 add-says c =
     let given = start (other c) in
-    omega (arith, behind c, first_word_le given.args.b.now given.args.i (text " ") given.pre.place, given.pre.size)
+    omega (arith, behind c, first_word_le given.args.b.now given.args.i (text " ") given.requires.place, given.requires.size)
 
 returns-2 : tie.Need-returns-then-word_at
 unfolding box_reason

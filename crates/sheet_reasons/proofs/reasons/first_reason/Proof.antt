@@ -1,7 +1,6 @@
 -- `first_reason` is the own reason of a first line. Assumes nothing.
 use mathlib.Core.Path.{sym, ap, ◌∙◌}
 use borrow.Author.Rules.{rules}
-use Rattle.folds.specs.Tests.{failed, passed}
 use Rattle.rules.specs.Text.{text}
 use Rattle.sheet_reasons.specs.Reasons.{count_reason, first_reason}
 use Rattle.sheet_reasons.proofs.reasons.first_reason.Statement.{statement}
@@ -15,14 +14,14 @@ returns-2 : tie.Need-returns-then-not-word_at
 unfolding first_reason text
 returns-2 c =
     let alone = c.before.before.before in
-    rw (sym alone.before.word_at.ensures ∙ alone.if-word_at.false, failed c.before.word_at-2.ensures c.if-not-word_at.true)
+    rw (sym alone.before.word_at.ensures ∙ alone.if-word_at.false, sym c.before.word_at-2.ensures ∙ c.if-not-word_at.true)
 
 returns-3 : tie.Need-returns
 unfolding first_reason text
 returns-3 c =
     let named = c.before.before in
     let alone = named.before.before.before in
-    rw (sym alone.before.word_at.ensures ∙ alone.if-word_at.false, passed named.before.word_at-2.ensures named.if-not-word_at.false)
+    rw (sym alone.before.word_at.ensures ∙ alone.if-word_at.false, sym named.before.word_at-2.ensures ∙ named.if-not-word_at.false)
     (c.count_reason.ensures ∙ ap (count_reason 4) c.before.spaces_in-numbers.ensures)
 
 pub first_reason_spec : {M : Type 1} → statement M

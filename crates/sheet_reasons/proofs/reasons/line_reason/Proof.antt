@@ -11,7 +11,7 @@ use Rattle.sheet_reasons.specs.Reasons.{line_reason}
 use Rattle.sheet_reasons.proofs.reasons.line_reason.Statement.{statement}
 use Rattle.sheet_reasons.proofs.reasons.line_reason.Tie as tie
 
--- the tests that have failed so far, one behind the other
+-- the tests that have sym so ∙ far, one behind the other
 abbrev start : tie.Else-b-i → tie.Start
 start c = c.before.before
 

@@ -7,7 +7,6 @@ use native.Mathlib.Omega.{arith}
 use mathlib.Core.Bool.{true}
 use mathlib.Core.Path.{◌≡◌, sym, ◌∙◌}
 use lib.ListN.{length}
-use Rattle.folds.specs.Tests.{failed, passed}
 use Rattle.folds.specs.Below.{all_below, all_below-zero, all_below_more, all_below_not}
 use Rattle.text.specs.Hexadecimal.{hex_at, hex_stands, hex_there, hex_none, hex_short}
 use Rattle.text.proofs.hexadecimal.hex_at.Statement.{statement}
@@ -37,12 +36,12 @@ loop-holds c =
 
 returns-3 : tie.Need-returns-then-not-is_hex_digit invariant-loop-j decreases-loop-j
 unfolding hex_at
-returns-3 c = sym (all_below_not _ _ _ c.before.before.before.loop-j-test.true (failed (tested c.before) c.if-not-is_hex_digit.true))
+returns-3 c = sym (all_below_not _ _ _ c.before.before.before.loop-j-test.true (sym (tested c.before) ∙ c.if-not-is_hex_digit.true))
 
 loop-again : tie.Need-loop-j-preserved invariant-loop-j decreases-loop-j
 loop-again c =
     let inv = c.before.before.before.before.loop-j.invariant in
-    (omega arith, inv.1, all_below_more _ _ inv.2 (passed (tested c.before) c.if-not-is_hex_digit.false))
+    (omega arith, inv.1, all_below_more _ _ inv.2 (sym (tested c.before) ∙ c.if-not-is_hex_digit.false))
 
 returns-4 : tie.Need-returns invariant-loop-j decreases-loop-j
 unfolding hex_at

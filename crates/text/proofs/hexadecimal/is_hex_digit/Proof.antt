@@ -22,9 +22,9 @@ returns-3 c =
     let letter : leb 97 x ≡ false = lt-leb 97 x c.if-x-ge97.false in
     ⊎_elim
     (λ w.
-    let high : leb x 57 ≡ false = w.1.left in
+    let high : leb x 57 ≡ false = w.1.false in
     rw (high, and_false (leb 48 x), letter))
-    (λ w. rw (lt-leb 48 x w.left, letter))
+    (λ w. rw (lt-leb 48 x w.false, letter))
     c.before.if-x-ge48.branch
 
 pub is_hex_digit_spec : {M : Type 1} → statement M

@@ -6,7 +6,6 @@ use native.Mathlib.Omega.{arith}
 use mathlib.Core.Bool.{true}
 use mathlib.Core.Path.{◌≡◌, sym, ◌∙◌}
 use borrow.Author.Tests.{not-true, not-false}
-use Rattle.folds.specs.Tests.{failed, passed}
 use Rattle.folds.specs.Below.{all_below, all_below-zero, all_below_more, all_below_not}
 use Rattle.rules.specs.Text.{number_place, numbers_at}
 use Rattle.text.specs.Decimals.{byte_within}
@@ -34,8 +33,8 @@ tested c =
     let loop = (read c).before.before.loop-j in
     c.byte_at.ensures
     ∙ sym
-    (number_behind given.b.now given.i given.m loop.j loop.inv.1 (read c).decimal_at-x.ensures (not-false _ c.before.before.if-not-x.false)
-    (behind_is loop.j given.m c.before.if-j-m.branch (λ w. w.taken) (λ w. w.left)))
+    (number_behind given.b.now given.i given.m loop.j loop.invariant.1 (read c).decimal_at-x.ensures (not-false _ c.before.before.if-not-x.false)
+    (behind_is loop.j given.m c.before.if-j-m.branch (λ w. w.true) (λ w. w.false)))
 
 returns : tie.Need-returns-then-not-x invariant-loop-j decreases-loop-j
 unfolding numbers_at
@@ -51,12 +50,12 @@ returns-2 : tie.Need-returns-then-not-byte_at invariant-loop-j decreases-loop-j
 unfolding numbers_at
 returns-2 c =
     let turn = (read c.before).before in
-    sym (all_below_not _ _ _ turn.loop-j-test.taken (failed (tested c.before) c.if-not-byte_at.true))
+    sym (all_below_not _ _ _ turn.loop-j-test.true (sym (tested c.before) ∙ c.if-not-byte_at.true))
 
 add-place : tie.Need-overflow_add-place invariant-loop-j decreases-loop-j
 add-place c =
     let test = c.before.before in
-    omega (arith, byte_within (start (read test)).args.b.now (read test).decimal_at-x.result.end test.before.if-j-m.behind (passed test.byte_at.ensures c.before.if-not-byte_at.false))
+    omega (arith, byte_within (start (read test)).args.b.now (read test).decimal_at-x.result.end test.before.if-j-m.behind (sym test.byte_at.ensures ∙ c.before.if-not-byte_at.false))
 
 loop-again : tie.Need-loop-j-preserved invariant-loop-j decreases-loop-j
 loop-again c =
@@ -64,8 +63,8 @@ loop-again c =
     let given = (start (read test)).args in
     let loop = (read test).before.before.loop-j in (
       omega arith,
-      number_next given.b.now given.i given.m loop.j loop.inv.1 (read test).decimal_at-x.ensures,
-      all_below_more _ loop.j loop.inv.2 (passed (tested test) c.before.if-not-byte_at.false),
+      number_next given.b.now given.i given.m loop.j loop.invariant.1 (read test).decimal_at-x.ensures,
+      all_below_more _ loop.j loop.invariant.2 (sym (tested test) ∙ c.before.if-not-byte_at.false),
     )
 
 returns-3 : tie.Need-returns invariant-loop-j decreases-loop-j

@@ -27,8 +27,8 @@ loop-again c =
     let inv = loop.invariant in (
       runs_more inv.0 (omega arith)
           (⊎_elim
-          (λ w. digit_put _ loop.j loop.next loop.out inv.1 w.0.taken w.1 w.2)
-          (λ w. digit_skip _ loop.j loop.next loop.out inv.1 w.0.left w.1 w.2)
+          (λ w. digit_put _ loop.j loop.next loop.out inv.1 w.0.true w.1 w.2)
+          (λ w. digit_skip _ loop.j loop.next loop.out inv.1 w.0.false w.1 w.2)
           c.if-power-x.branch),
       power_next loop.j (omega arith) inv.1,
     )
