@@ -53,10 +53,10 @@ loop-again c =
     let inv = c.before.before.before.loop-left.invariant in
     ⊎_elim
     (λ w.
-    rw (w.2, w.1.ensures, c.times-base.ensures)
-    (mod-lt _ c.before.before.before.before.requires, odd _ _ _ _ w.0.true ∙ inv.1))
-    (λ w. rw (w.1, c.times-base.ensures) (inv.0, even _ _ _ _ w.0.left ∙ inv.1))
-    c.before.if-left-eq1.branch
+    rw (w.made-is, w.times-made.ensures, c.times-base.ensures)
+    (mod-lt _ c.before.before.before.before.requires, odd _ _ _ _ w.if-left-eq1.true ∙ inv.1))
+    (λ w. rw (w.made-is, c.times-base.ensures) (inv.0, even _ _ _ _ w.if-left-eq1.false ∙ inv.1))
+    c.before.if-left-eq1.branch-raw
 
 pub power_spec : {M : Type 1} → statement M
 power_spec =
