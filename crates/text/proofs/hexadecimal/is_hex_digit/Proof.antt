@@ -22,15 +22,15 @@ returns-3 c =
     let letter : leb 97 x ≡ false = lt-leb 97 x c.if-x-ge97.false in
     ⊎_elim
     (λ w.
-    let high : leb x 57 ≡ false = w.1.false in
+    let high : leb x 57 ≡ false = lt-leb x 57 w.if-x-le57.false in
     rw (high, and_false (leb 48 x), letter))
-    (λ w. rw (lt-leb 48 x w.false, letter))
-    c.before.if-x-ge48.branch
+    (λ w. rw (lt-leb 48 x w.if-x-ge48.false, letter))
+    c.before.else-x-ge48.branch-raw
 
 pub is_hex_digit_spec : {M : Type 1} → statement M
 is_hex_digit_spec =
     tie.close
     (tie.spec
-    (λ c. rw (le-leb _ _ c.before.if-x-ge48.true, c.if-x-le57.true))
+    (λ c. rw (le-leb _ _ c.before.if-x-ge48.true, le-leb _ _ c.if-x-le57.true))
     returns-2
     returns-3)

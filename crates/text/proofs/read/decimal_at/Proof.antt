@@ -66,9 +66,9 @@ returns-5 c =
     let number = said c.before in
     let plain : eqb (digits_end b i) (i + 1) or not (byte_at b i 48) ≡ true =
     ⊎_elim
-    (λ w. or_right (eqb (digits_end b i) (i + 1)) (not (byte_at b i 48)) (ap not (sym w.1.ensures ∙ w.2.false)))
+    (λ w. or_right (eqb (digits_end b i) (i + 1)) (not (byte_at b i 48)) (ap not (sym w.byte_at.ensures ∙ w.if-byte_at.false)))
     (λ w. or_left (eqb (digits_end b i) (i + 1)) (not (byte_at b i 48)) (eq-eqb (digits_end b i) (i + 1) (omega arith)))
-    c.before.before.if-n-gt1.branch in
+    c.before.before.else-n-gt1.branch-raw in
     decimal_some b i end number
     (tests_decimal b i (record { some = omega arith; few = omega arith; plain = plain; small = omega arith }))
 

@@ -24,12 +24,12 @@ loop-holds c = refl
 returns : tie.Need-returns-then-not-digit_at invariant-loop-j decreases-loop-j
 returns c =
     let turn = c.before.before in
-    sym (first_from_here _ _ _ turn.loop-j-test.true (ap not (sym c.before.digit_at.ensures) ∙ c.if-not-digit_at.true)) ∙ turn.before.loop-j.invariant
+    sym (first_from_here _ _ _ turn.loop-j-test.true (ap not (sym c.before.digit_at.ensures ∙ c.if-not-digit_at.true))) ∙ turn.before.loop-j.invariant
 
 loop-again : tie.Need-loop-j-preserved invariant-loop-j decreases-loop-j
 loop-again c =
     let turn = c.before.before in
-    sym (first_from_skip _ _ _ turn.loop-j-test.true (ap not (sym c.before.digit_at.ensures) ∙ c.if-not-digit_at.false)) ∙ turn.before.loop-j.invariant
+    sym (first_from_skip _ _ _ turn.loop-j-test.true (ap not (sym c.before.digit_at.ensures ∙ c.if-not-digit_at.false))) ∙ turn.before.loop-j.invariant
 
 pub digits_end_spec : {M : Type 1} → statement M
 digits_end_spec =

@@ -4,6 +4,7 @@ use borrow.Author.Rules.{rules}
 use Prim.Native.Nat.{◌-◌, ◌≤◌}
 use native.Mathlib.Omega.{arith}
 use mathlib.Core.Bool.{true}
+use mathlib.Core.Logic.{⊎_map}
 use mathlib.Core.Path.{◌≡◌, sym, ◌∙◌}
 use borrow.Author.Tests.{not-true, not-false}
 use Rattle.folds.specs.Below.{all_below, all_below-zero, all_below_more, all_below_not}
@@ -34,7 +35,7 @@ tested c =
     c.byte_at.ensures
     ∙ sym
     (number_behind given.b.now given.i given.m loop.j loop.invariant.1 (read c).decimal_at-x.ensures (not-false _ c.before.before.if-not-x.false)
-    (behind_is loop.j given.m c.before.if-j-m.branch (λ w. w.true) (λ w. w.false)))
+    (behind_is loop.j given.m (⊎_map (λ w. (w.if-j-m, w.behind-is)) (λ w. (w.if-j-m, w.behind-is)) c.before.if-j-m.branch-raw) (λ w. w.true) (λ w. w.false)))
 
 returns : tie.Need-returns-then-not-x invariant-loop-j decreases-loop-j
 unfolding numbers_at
