@@ -12,11 +12,13 @@ use Rattle.rules.specs.Numbers.{group_of}
 use Rattle.rules.specs.Messages.{tag_in, has_matrix, matrix_in, Message, echo, ready, message_in, four_in}
 use Rattle.rules.specs.Dealing.{matrix_passes, four_below, point_check, polynomial_check}
 use Rattle.rules.specs.Record.{group_in}
-use Rattle.rules.specs.Laws.Numbers.{Ranges, GroupRanges, is_box_lem}
-use Rattle.rules.specs.Laws.RoundTrip.{Formed, by_tag, is_echo_lem, is_ready_lem}
+use Rattle.rules.specs.Laws.Numbers.{Ranges, GroupRanges}
+use Rattle.rules.proofs.Laws.Numbers.{is_box_lem}
+use Rattle.rules.specs.Laws.RoundTrip.{Formed}
+use Rattle.rules.proofs.Laws.RoundTrip.{by_tag, is_echo_lem, is_ready_lem}
 use Rattle.rules.specs.Laws.Passed.{Hearing}
 use Rattle.rules.specs.Answers.{exponents_keep, checks}
-use Rattle.rules.specs.Laws.Sound.{sound_ranges}
+use Rattle.rules.proofs.Laws.Sound.{sound_ranges}
 use Rattle.rules.specs.declared.Group.{Group}
 use Rattle.rules.specs.declared.Element.{Element}
 use Rattle.rules.specs.declared.Four.{Four}

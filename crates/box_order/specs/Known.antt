@@ -7,10 +7,10 @@ use Rattle.rules.specs.declared.Record.{Record}
 use Rattle.rules.specs.declared.SetUp.{SetUp}
 use Rattle.rules.specs.Answers.{first_of, call_rows, form_rows}
 use Rattle.rules.specs.Laws.Numbers.{Ranges}
-use Rattle.rules.specs.Laws.RoundTrip.{formed}
-use Rattle.rules.specs.Laws.Sound.{sound_ranges}
-use Rattle.rules.specs.Laws.Table.{row, lacks, numbers, past}
-use Rattle.rules.specs.Laws.Passed.{called}
+use Rattle.rules.proofs.Laws.RoundTrip.{formed}
+use Rattle.rules.proofs.Laws.Sound.{sound_ranges}
+use Rattle.rules.proofs.Laws.Table.{row, lacks, numbers, past}
+use Rattle.rules.proofs.Laws.Passed.{called}
 use Rattle.box_refusals.specs.Known.{InForm}
 
 -- past rows 15 and 12, by the number that code computed and tested

@@ -10,7 +10,7 @@ use Rattle.rules.specs.declared.Record.{Record}
 use Rattle.rules.specs.Messages.{written}
 use Rattle.rules.specs.Steps.{Step, quiet}
 use Rattle.rules.specs.Answers.{done, accepted, refused, answered}
-use Rattle.rules.specs.Laws.DemandOne.{answered_accepted, answered_refused}
+use Rattle.rules.proofs.Laws.DemandOne.{answered_accepted, answered_refused}
 use Rattle.box_step.specs.declared.Step.{Step as Made}
 use Rattle.box_step.specs.Told.{quietly, told}
 

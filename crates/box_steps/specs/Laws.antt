@@ -24,15 +24,15 @@ use Rattle.rules.specs.Dealing.{coins_keep}
 use Rattle.rules.specs.Record.{slot_at, heard_for, shares_kept}
 use Rattle.rules.specs.Steps.{heard, own_slot, free_slot, slot_for, opened, taken, with_slot, lowest, ready_sent, quiet, completed, ready_due, completion_due, point_at, point_step, sending, share_step, recovering, sharing, Step}
 use Rattle.rules.specs.Laws.Numbers.{GroupRanges, Ranges}
-use Rattle.rules.specs.Laws.Matrices.{square_some}
-use Rattle.rules.specs.Laws.Sound.{sound_ranges}
-use Rattle.rules.specs.Laws.Dealing.{secret_low, coins_count}
+use Rattle.rules.proofs.Laws.Matrices.{square_some}
+use Rattle.rules.proofs.Laws.Sound.{sound_ranges}
+use Rattle.rules.proofs.Laws.Dealing.{secret_low, coins_count}
 use Rattle.message_writing.specs.Written.{to_box, Writes, CanSend}
 use Rattle.box_step.specs.declared.Step.{Step as Made}
 use Rattle.box_step.specs.Told.{sends}
 use Rattle.box_step.specs.Takes.{made, Takes}
 use Rattle.box_steps.specs.Sender.{Sender}
-use Rattle.rules.specs.Laws.Facts.{hears, ear}
+use Rattle.rules.proofs.Laws.Facts.{hears, ear}
 use Rattle.rules.specs.declared.Side.TheVariants.{ByEcho, ByReady}
 use Rattle.rules.specs.declared.Pair.{Pair}
 use Rattle.rules.specs.declared.Sent.{Sent}

@@ -14,8 +14,8 @@ use Rattle.rules.specs.declared.Group.{Group}
 use Rattle.rules.specs.Numbers.{element}
 use Rattle.rules.specs.Matrices.{row, entry}
 use Rattle.rules.specs.Dealing.{opens, along_column}
-use Rattle.rules.specs.Laws.Matrices.{row_at_lem}
-use Rattle.rules.specs.Laws.Checks.{entry_member}
+use Rattle.rules.proofs.Laws.Matrices.{row_at_lem}
+use Rattle.rules.proofs.Laws.Checks.{entry_member}
 use Rattle.checking.specs.Equations.{Checkable, Line, element_at, along_line}
 
 -- a line made of f

@@ -12,7 +12,7 @@ use Rattle.folds.specs.Runs.{gather, gather-same}
 use Rattle.rules.specs.declared.SetUp.{SetUp}
 use Rattle.rules.specs.Messages.{Message, tag_of, bytes_of, whole_length, to_each, written}
 use Rattle.rules.specs.Text.{text, decimal}
-use Rattle.rules.specs.Laws.Lengths.{whole_length_least, length-to_each, piece_to_each, length-written}
+use Rattle.rules.proofs.Laws.Lengths.{whole_length_least, length-to_each, piece_to_each, length-written}
 use Rattle.text.specs.Hexadecimal.{hex_pair, hex_of}
 use Rattle.console_page.specs.Answers.{message_line, each_line, wrote, message_lines, message_within}
 

@@ -10,7 +10,7 @@ use Rattle.folds.specs.Tests.{pick, pick-false, false_unless, not_true_and_false
 use Rattle.folds.specs.Below.{first_from, first_from_passes, first_from_before}
 use Rattle.rules.specs.Messages.{tag_in, malformed}
 use Rattle.rules.specs.Text.{text}
-use Rattle.rules.specs.Laws.RoundTrip.{formed}
+use Rattle.rules.proofs.Laws.RoundTrip.{formed}
 use Rattle.console_page.specs.Reading.{of_width, width_in, said_line, read_line}
 
 -- a search finds nothing before its start

@@ -26,10 +26,10 @@ use Rattle.rules.specs.Dealing.{coins_keep, matrix_passes, pair_below, point_che
 use Rattle.rules.specs.Record.{slot_at, heard_for, matrix_of, is_there, is_done, kept_below, same_matrix}
 use Rattle.rules.specs.Steps.{points, completed_share, share_bytes}
 use Rattle.rules.specs.Answers.{set_up, exponents_keep, checks}
-use Rattle.rules.specs.Laws.Numbers.{bounds, box_is}
-use Rattle.rules.specs.Laws.Agreement.{share_agree}
-use Rattle.rules.specs.Laws.RoundTrip.{MatrixFits, Fits, matrix_part}
-use Rattle.rules.specs.Laws.Ranges.{four_room, pair_room, read_room, slot_room, dealt_room, dealt_rooms}
+use Rattle.rules.proofs.Laws.Numbers.{bounds, box_is}
+use Rattle.rules.proofs.Laws.Agreement.{share_agree}
+use Rattle.rules.proofs.Laws.RoundTrip.{MatrixFits, Fits, matrix_part}
+use Rattle.rules.proofs.Laws.Ranges.{four_room, pair_room, read_room, slot_room, dealt_room, dealt_rooms}
 use Rattle.demands.specs.Terms.Histories.{Call, gets, doing, after, wrote, message_to, keeps, own}
 use Rattle.demands.specs.MessageTo.{message_to_lem}
 use Rattle.demands.specs.Terms.Dealing.{group, order, dealt_point, dealt_share, Different}

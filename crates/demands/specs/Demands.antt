@@ -24,10 +24,10 @@ use Rattle.rules.specs.Record.{slot_at, place_at, share_at, is_there, is_done, m
 use Rattle.rules.specs.Steps.{Said, share_points, pair_from, echo_four, recovered_from}
 use Rattle.rules.specs.Answers.{no_pair, set_up}
 use Rattle.rules.specs.Sheet.{box_lines, secret_line, printed}
-use Rattle.rules.specs.UselessBoxes.{Station, Keeps}
+use Rattle.rules.proofs.UselessBoxes.{Station, Keeps}
 use Rattle.rules.specs.Laws.Shape.{Shaped}
-use Rattle.rules.specs.Laws.DemandOne.{Heard}
-use Rattle.rules.specs.Laws.Heard.{NowHeard, OneMark}
+use Rattle.rules.proofs.Laws.DemandOne.{Heard}
+use Rattle.rules.proofs.Laws.Heard.{NowHeard, OneMark}
 use Rattle.demands.specs.Terms.Histories.{Call, deals, gets, commanded, doing, after, answers, wrote, Class, own, Event, record_of}
 use Rattle.demands.specs.Terms.Dealing.{group, order, Sound, dealt_point, dealt_share, sends_of, Different}
 use Rattle.demands.specs.Terms.Lives.{checked, said, share_said, e_of, r_of, kept_for, lowest_for, is_send, is_echo, is_recovery, how_many, readies_sent, Writes, answer_to, Sends}

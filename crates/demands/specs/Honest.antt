@@ -29,9 +29,10 @@ use Rattle.rules.specs.Messages.{message_in}
 use Rattle.rules.specs.Dealing.{coins_keep}
 use Rattle.rules.specs.Record.{slot_at, place_at, share_at, is_there, matrix_of, same_matrix}
 use Rattle.rules.specs.Answers.{set_up, answered, deliver}
-use Rattle.rules.specs.Laws.Agreement.{agree_self}
-use Rattle.rules.specs.Laws.DemandOne.{outcome_number}
-use Rattle.rules.specs.Laws.Passed.{Passed, rows_passed, DealPassed, deal_passed}
+use Rattle.rules.proofs.Laws.Agreement.{agree_self}
+use Rattle.rules.proofs.Laws.DemandOne.{outcome_number}
+use Rattle.rules.specs.Laws.Passed.{Passed, DealPassed}
+use Rattle.rules.proofs.Laws.Passed.{rows_passed, deal_passed}
 use Rattle.demands.specs.Terms.Honest.{Past, Deal, AllKeep, DealsOnly}
 use Rattle.demands.specs.Terms.Histories.{Call, deals, gets, commanded, doing, after, Class, keeps, own, Event, calls, record_of}
 use Rattle.demands.specs.Histories.{sent_by, past_self, past_more, past_trans, past_none, past_cases, calls_past, carries_earlier}

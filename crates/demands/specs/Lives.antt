@@ -45,9 +45,9 @@ use Rattle.rules.specs.Record.{slot_at, place_at, share_at, is_held, is_there, i
 use Rattle.rules.specs.Steps.{points, share_points, pair_from, echo_four, recovered_from}
 use Rattle.rules.specs.Answers.{set_up}
 use Rattle.rules.specs.Laws.Shape.{Shaped}
-use Rattle.rules.specs.Laws.Sound.{facts_sound}
-use Rattle.rules.specs.Laws.DemandOne.{Heard}
-use Rattle.rules.specs.Laws.Heard.{NowHeard, OneMark, accepted_hears, refusal_leaves}
+use Rattle.rules.proofs.Laws.Sound.{facts_sound}
+use Rattle.rules.proofs.Laws.DemandOne.{Heard}
+use Rattle.rules.proofs.Laws.Heard.{NowHeard, OneMark, accepted_hears, refusal_leaves}
 use Rattle.demands.specs.Terms.Histories.{Call, deals, gets, commanded, doing, after, answers, wrote}
 use Rattle.demands.specs.Terms.Dealing.{group, order, sends_of}
 use Rattle.demands.specs.Sharing.{size}

@@ -25,10 +25,10 @@ use Rattle.rules.specs.declared.SetUp.{SetUp}
 use Rattle.rules.specs.Numbers.{element, logarithm}
 use Rattle.rules.specs.Matrices.{coefficient, coefficient₂}
 use Rattle.rules.specs.Dealing.{f_of, f'_of, coins_keep, committed, commitment, along_y, along_x, polynomials_of}
-use Rattle.rules.specs.Laws.Numbers.{group_sizes}
-use Rattle.rules.specs.Laws.Matrices.{matrix_same, row_within}
-use Rattle.rules.specs.Laws.Generator.{logarithm_some, logarithm_below, committed_moves}
-use Rattle.rules.specs.Laws.Dealing.{f_of_at, f'_of_at, along_y_at, along_x_at, coins_count, coin_low}
+use Rattle.rules.proofs.Laws.Numbers.{group_sizes}
+use Rattle.rules.proofs.Laws.Matrices.{matrix_same, row_within}
+use Rattle.rules.proofs.Laws.Generator.{logarithm_some, logarithm_below, committed_moves}
+use Rattle.rules.proofs.Laws.Dealing.{f_of_at, f'_of_at, along_y_at, along_x_at, coins_count, coin_low}
 use Rattle.demands.specs.Terms.Dealing.{group, order, Sound, dealt_matrix, dealt_to, none}
 use Rattle.demands.specs.Sharing.{rule, size}
 use Rattle.demands.specs.Terms.Secrets.{Few, vanishing, z, difference, difference', moved, matching}

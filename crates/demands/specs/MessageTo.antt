@@ -5,7 +5,7 @@ use Rattle.std.proofs.Common.{ap, ◌∙◌, arith}
 use Rattle.std.proofs.Math.Nat.{mul-div_cancel_left}
 use Rattle.rules.specs.declared.SetUp.{SetUp}
 use Rattle.rules.specs.Messages.{Message, tag_of, bytes_of, whole_length, to_each}
-use Rattle.rules.specs.Laws.Lengths.{length-to_each, piece_to_each}
+use Rattle.rules.proofs.Laws.Lengths.{length-to_each, piece_to_each}
 use Rattle.demands.specs.Terms.Histories.{message_to}
 
 pub message_to_lem : (u : SetUp) (f : ℕ → Message) (tag : ℕ) → ((j : ℕ) → tag_of (f j) ≡ tag) → (j : ℕ) → 1 ≤ j → j ≤ u.n

@@ -12,7 +12,7 @@ use Rattle.rules.specs.declared.SetUp.{SetUp}
 use Rattle.rules.specs.Messages.{Message, send, echo, ready, recovery, two_bytes, matrix_bytes, polynomial_bytes, four_bytes, tag_of, body_of, framed, bytes_of, to_each, matrix_in, polynomials_in, four_in, message_in}
 use Rattle.rules.specs.Record.{same_matrix}
 use Rattle.rules.specs.Answers.{exponents_keep, set_up, set_up_rows, outcome_of, accepted, first_row}
-use Rattle.rules.specs.Laws.Sound.{agree_at}
+use Rattle.rules.proofs.Laws.Sound.{agree_at}
 use Rattle.demands.specs.Terms.Histories.{own}
 use Rattle.folds.specs.Tests.{and_left, and_right, and_intro}
 use Rattle.rules.specs.Numbers.{group_keeps, sizes_keep, is_box, numbers_keep}

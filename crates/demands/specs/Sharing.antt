@@ -25,10 +25,11 @@ use Rattle.rules.specs.Matrices.{entry, coefficient, coefficient₂, α, α', β
 use Rattle.rules.specs.Dealing.{f_of, f'_of, coins_keep, committed, commitment, along_y, along_x, polynomials_of, value_at, in_group, matrix_passes, polynomials_below, four_below, pair_below, polynomial_check, point_check, share_check, along_column, along_row}
 use Rattle.rules.specs.Steps.{Said, through, pair_from, ready_four, echo_four, recovered_from}
 use Rattle.rules.specs.Answers.{no_pair}
-use Rattle.rules.specs.Laws.Numbers.{Sizes, sizes, GroupRule, group_rule, group_sizes}
-use Rattle.rules.specs.Laws.Matrices.{entry_at, square_some}
-use Rattle.rules.specs.Laws.Dealing.{along_y_at, along_x_at, crossed, first_value, secret_low, coins_count, coin_low, f_first, f'_first}
-use Rattle.rules.specs.Laws.Checks.{in_group_lem, matrix_passes_lem, entry_below, entry_member, column_member, row_member, opened_columns, opened_rows, polynomial_checks, polynomial_columns, polynomial_rows, point_checks, point_α, point_β, polynomials_below_lem, echo_below, ready_below, pair_from_below, l_equation_lem, j_equation_lem, share_equation}
+use Rattle.rules.specs.Laws.Numbers.{Sizes}
+use Rattle.rules.proofs.Laws.Numbers.{sizes, GroupRule, group_rule, group_sizes}
+use Rattle.rules.proofs.Laws.Matrices.{entry_at, square_some}
+use Rattle.rules.proofs.Laws.Dealing.{along_y_at, along_x_at, crossed, first_value, secret_low, coins_count, coin_low, f_first, f'_first}
+use Rattle.rules.proofs.Laws.Checks.{in_group_lem, matrix_passes_lem, entry_below, entry_member, column_member, row_member, opened_columns, opened_rows, polynomial_checks, polynomial_columns, polynomial_rows, point_checks, point_α, point_β, polynomials_below_lem, echo_below, ready_below, pair_from_below, l_equation_lem, j_equation_lem, share_equation}
 use Rattle.demands.specs.Terms.Dealing.{group, order, Sound, dealt_matrix, dealt_to, dealt_point, dealt_share, none, Different}
 
 -- ---- what numbers of different boxes give

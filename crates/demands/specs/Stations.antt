@@ -13,7 +13,7 @@ use Rattle.rules.specs.declared.Element.{Element}
 use Rattle.rules.specs.declared.Record.{Record}
 use Rattle.rules.specs.declared.SetUp.{SetUp}
 use Rattle.rules.specs.Answers.{Done, set_up}
-use Rattle.rules.specs.UselessBoxes.{Station, zeros_are_bytes, Keeps}
+use Rattle.rules.proofs.UselessBoxes.{Station, zeros_are_bytes, Keeps}
 use Rattle.demands.specs.Terms.Histories.{Call, deals, gets, commanded, doing, after, keeps}
 use Rattle.demands.specs.Terms.Lives.{checks_by, checks_now, checked, e_of, r_of}
 use Rattle.demands.specs.Lives.{life_sound, e_counts, r_counts}

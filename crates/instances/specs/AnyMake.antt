@@ -10,7 +10,7 @@ use Rattle.rules.specs.declared.Record.{Record}
 use Rattle.rules.specs.Answers.{deliver}
 use Rattle.rules.specs.Computed.{computed}
 use Rattle.rules.specs.HandSums.{class}
-use Rattle.rules.specs.UselessBoxes.{are_bytes, Keeps}
+use Rattle.rules.proofs.UselessBoxes.{are_bytes, Keeps}
 use Rattle.demands.specs.Terms.Histories.{Call, deals, gets, commanded, doing, after}
 use Rattle.demands.specs.Terms.Lives.{e_of, r_of}
 use Rattle.demands.specs.Terms.Stations.{doing_by, after_by, checked_by, Sayable, AllSayable}

@@ -10,9 +10,9 @@ use Rattle.rules.specs.Messages.{tag_in}
 use Rattle.rules.specs.Record.{heard_for}
 use Rattle.rules.specs.Computed.{computed}
 use Rattle.rules.specs.HandSums.{class}
-use Rattle.rules.specs.Laws.Table.{lacks}
-use Rattle.rules.specs.Laws.DemandOne.{Heard}
-use Rattle.rules.specs.Laws.Heard.{NowHeard, OneMark}
+use Rattle.rules.proofs.Laws.Table.{lacks}
+use Rattle.rules.proofs.Laws.DemandOne.{Heard}
+use Rattle.rules.proofs.Laws.Heard.{NowHeard, OneMark}
 use Rattle.demands.specs.Terms.Histories.{Call, gets, doing, after, answers}
 use Rattle.demands.specs.Demands.{accepted_is_heard, refusal_marks_one_at_most}
 use Rattle.instances.specs.Calls.{first, echoed, twice, said_2, wrong, hearing, told, wrong_share}

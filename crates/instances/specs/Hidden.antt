@@ -20,7 +20,7 @@ use Rattle.rules.specs.Record.{slot_at, place_at, matrix_of, count_e, count_r}
 use Rattle.rules.specs.Steps.{recovered_from}
 use Rattle.rules.specs.Computed.{computed}
 use Rattle.rules.specs.HandSums.{pair}
-use Rattle.rules.specs.Laws.Numbers.{is_box_lem}
+use Rattle.rules.proofs.Laws.Numbers.{is_box_lem}
 use Rattle.demands.specs.Terms.Histories.{doing, message_to, keeps, may_break, own, Event, record_of, seen}
 use Rattle.demands.specs.Terms.Dealing.{order, dealt_share}
 use Rattle.demands.specs.Terms.Secrets.{matching}

@@ -14,7 +14,7 @@ use Rattle.rules.specs.Messages.{send, tag_of, body_of, framed, bytes_of, two_by
 use Rattle.rules.specs.Dealing.{f_of, f'_of, coins_keep, polynomials_of, from_coins}
 use Rattle.rules.specs.Computed.{computed}
 use Rattle.rules.specs.HandSums.{coins, C, dealt}
-use Rattle.rules.specs.Laws.Dealing.{along_y_at, along_x_at}
+use Rattle.rules.proofs.Laws.Dealing.{along_y_at, along_x_at}
 use Rattle.demands.specs.Terms.Dealing.{order, Sound, dealt_matrix, dealt_to}
 use Rattle.demands.specs.Sharing.{size}
 use Rattle.demands.specs.Terms.Secrets.{vanishing, difference, difference', moved, matching, Few}

@@ -14,7 +14,7 @@ use Rattle.rules.specs.declared.Exponent.{Exponent}
 use Rattle.rules.specs.declared.Pair.{Pair}
 use Rattle.rules.specs.Matrices.{coefficient}
 use Rattle.rules.specs.Steps.{Said, through}
-use Rattle.rules.specs.Laws.Matrices.{coefficient_at}
+use Rattle.rules.proofs.Laws.Matrices.{coefficient_at}
 use Rattle.interpolation.specs.declared.Points.{Points}
 use Rattle.interpolation.specs.Points.{nobody, box_at, said_at, said_by}
 use Rattle.interpolation.specs.Lagrange.{weight_row, weighted_sum, weighted_pair, pair_through}

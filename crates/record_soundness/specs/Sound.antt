@@ -13,7 +13,7 @@ use Rattle.rules.specs.declared.Record.{Record}
 use Rattle.rules.specs.declared.Slot.{Slot}
 use Rattle.rules.specs.Numbers.{group_keeps, numbers_keep}
 use Rattle.rules.specs.Record.{group_in, slot_at, share_at, heard_for, is_there, is_done, shares_kept, kept_below, setup_keeps, slot_below, exponents_below, matrices_differ, matrices_pass, marks_keep, places_keep, use_keeps, pair_keeps, completion_keeps, recovery_keeps, dealt_keeps, entries_zero, unused_zero, sound}
-use Rattle.rules.specs.Laws.Clauses.{clauses, is_sound}
+use Rattle.rules.proofs.Laws.Clauses.{clauses, is_sound}
 use Rattle.record_clauses.specs.Clauses.{every_slot, slot_keeps, passes_in, differ_from, all_differ}
 use Rattle.record_soundness.specs.Clauses.{share_keeps, shares_keep, recovery_passes, senders_clear}
 

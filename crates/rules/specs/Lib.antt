@@ -12,7 +12,6 @@ pub mod Text
 pub mod Sheet
 pub mod Computed
 pub mod HandSums
-pub mod UselessBoxes
 pub mod SheetExample
 pub mod SheetCases
 pub mod MessageBytes

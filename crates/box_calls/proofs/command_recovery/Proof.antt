@@ -2,7 +2,7 @@
 use mathlib.Core.Path.{sym, ◌∙◌}
 use borrow.Author.Rules.{rules}
 use Rattle.rules.specs.Answers.{recover}
-use Rattle.rules.specs.Laws.Passed.{recover_passed}
+use Rattle.rules.proofs.Laws.Passed.{recover_passed}
 use Rattle.box_step.specs.Takes.{accepts, refuses}
 use Rattle.box_calls.proofs.command_recovery.Statement.{statement}
 use Rattle.box_calls.proofs.command_recovery.Tie as tie

@@ -2,7 +2,7 @@
 use mathlib.Core.Path.{sym, ◌∙◌}
 use borrow.Author.Rules.{rules}
 use Rattle.rules.specs.Answers.{deal}
-use Rattle.rules.specs.Laws.Passed.{deal_passed}
+use Rattle.rules.proofs.Laws.Passed.{deal_passed}
 use Rattle.box_step.specs.Takes.{accepts, refuses}
 use Rattle.box_calls.proofs.deal.Statement.{statement}
 use Rattle.box_calls.proofs.deal.Tie as tie

@@ -3,8 +3,8 @@ use mathlib.Core.Path.{◌≡◌, sym, ap, ◌∙◌}
 use lib.ListN.{length}
 use borrow.Author.Rules.{rules}
 use Rattle.rules.specs.Answers.{first_of, refused, early_rows, hearing_rows, deliver_rows, deliver}
-use Rattle.rules.specs.Laws.Table.{stops, goes_on}
-use Rattle.rules.specs.Laws.Passed.{gets_hearing, hearing_passed, early_numbered, early_leaves, hearing_leaves}
+use Rattle.rules.proofs.Laws.Table.{stops, goes_on}
+use Rattle.rules.proofs.Laws.Passed.{gets_hearing, hearing_passed, early_numbered, early_leaves, hearing_leaves}
 use Rattle.box_step.specs.Takes.{accepts, refuses}
 use Rattle.box_calls.proofs.deliver.Statement.{statement}
 use Rattle.box_calls.proofs.deliver.Tie as tie

@@ -4,8 +4,8 @@ use native.Mathlib.Omega.{arith}
 use borrow.Author.Rules.{rules}
 use Rattle.rules.specs.Dealing.{matrix_passes}
 use Rattle.rules.specs.Answers.{share_checks, checks}
-use Rattle.rules.specs.Laws.RoundTrip.{is_send_lem, is_recovery_lem, send_long, share_long, point_long, matrix_long}
-use Rattle.rules.specs.Laws.Sound.{sound_ranges}
+use Rattle.rules.proofs.Laws.RoundTrip.{is_send_lem, is_recovery_lem, send_long, share_long, point_long, matrix_long}
+use Rattle.rules.proofs.Laws.Sound.{sound_ranges}
 use Rattle.checking.specs.Equations.{Checkable}
 use Rattle.box_hearing.specs.Known.{point_checks, point_tested, polynomial_tested, group_ranges, sender_small}
 use Rattle.box_hearing.proofs.checks_out.Statement.{statement}

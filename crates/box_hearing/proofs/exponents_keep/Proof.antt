@@ -4,7 +4,7 @@ use borrow.Author.Rules.{rules}
 use Rattle.rules.specs.declared.Group.{Group}
 use Rattle.rules.specs.Dealing.{polynomials_below, four_below, pair_below}
 use Rattle.rules.specs.Answers.{exponents_keep}
-use Rattle.rules.specs.Laws.RoundTrip.{is_send_lem, is_recovery_lem, send_long, share_long, point_long}
+use Rattle.rules.proofs.Laws.RoundTrip.{is_send_lem, is_recovery_lem, send_long, share_long, point_long}
 use Rattle.box_hearing.specs.Known.{point_keeps}
 use Rattle.box_hearing.proofs.exponents_keep.Statement.{statement}
 use Rattle.box_hearing.proofs.exponents_keep.Tie as tie

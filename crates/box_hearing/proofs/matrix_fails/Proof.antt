@@ -6,7 +6,7 @@ use borrow.Author.Rules.{rules}
 use borrow.Author.Tests.{le-leb, lt-leb}
 use Rattle.rules.specs.Messages.{has_matrix}
 use Rattle.rules.specs.Dealing.{matrix_passes}
-use Rattle.rules.specs.Laws.RoundTrip.{matrix_long}
+use Rattle.rules.proofs.Laws.RoundTrip.{matrix_long}
 use Rattle.box_hearing.specs.Known.{matrix_fails, group_ranges}
 use Rattle.box_hearing.proofs.matrix_fails.Statement.{statement}
 use Rattle.box_hearing.proofs.matrix_fails.Tie as tie

@@ -5,7 +5,7 @@ use lib.Dec.{lit<}
 use borrow.Author.Rules.{rules, scaled_Fits}
 use Rattle.rules.specs.Record.{matrix_of}
 use Rattle.rules.specs.Answers.{share_checks}
-use Rattle.rules.specs.Laws.Sound.{sound_facts, sound_ranges}
+use Rattle.rules.proofs.Laws.Sound.{sound_facts, sound_ranges}
 use Rattle.box_hearing.specs.Known.{group_ranges}
 use Rattle.box_hearing.proofs.share_passes.Statement.{statement}
 use Rattle.box_hearing.proofs.share_passes.Tie as tie

@@ -1,8 +1,8 @@
 -- `deal` is the first of rows 15, 12, 13 and 14 that holds. Assumes nothing.
 use borrow.Author.Rules.{rules}
 use Rattle.rules.specs.Answers.{call_rows, deal_rows}
-use Rattle.rules.specs.Laws.Table.{stops, goes_on}
-use Rattle.rules.specs.Laws.Passed.{call_numbered}
+use Rattle.rules.proofs.Laws.Table.{stops, goes_on}
+use Rattle.rules.proofs.Laws.Passed.{call_numbered}
 use Rattle.box_order.specs.Known.{ranges_called}
 use Rattle.box_order.proofs.deal.Statement.{statement}
 use Rattle.box_order.proofs.deal.Tie as tie

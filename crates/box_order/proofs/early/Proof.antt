@@ -2,8 +2,8 @@
 use mathlib.Core.Path.{sym, ◌∙◌}
 use borrow.Author.Rules.{rules}
 use Rattle.rules.specs.Answers.{call_rows, form_rows, early_rows}
-use Rattle.rules.specs.Laws.Table.{stops, goes_on}
-use Rattle.rules.specs.Laws.Passed.{call_numbered}
+use Rattle.rules.proofs.Laws.Table.{stops, goes_on}
+use Rattle.rules.proofs.Laws.Passed.{call_numbered}
 use Rattle.box_order.specs.Known.{ranges_called, form_numbered, in_form}
 use Rattle.box_order.proofs.early.Statement.{statement}
 use Rattle.box_order.proofs.early.Tie as tie

@@ -1,8 +1,8 @@
 -- `recover` is the first of rows 15, 12 and 13 that holds. Assumes nothing.
 use borrow.Author.Rules.{rules}
 use Rattle.rules.specs.Answers.{call_rows, recover_rows}
-use Rattle.rules.specs.Laws.Table.{stops, goes_on}
-use Rattle.rules.specs.Laws.Passed.{call_numbered}
+use Rattle.rules.proofs.Laws.Table.{stops, goes_on}
+use Rattle.rules.proofs.Laws.Passed.{call_numbered}
 use Rattle.box_order.proofs.recover.Statement.{statement}
 use Rattle.box_order.proofs.recover.Tie as tie
 

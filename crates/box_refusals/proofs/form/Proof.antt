@@ -2,7 +2,7 @@
 use mathlib.Core.Path.{sym, ◌∙◌}
 use borrow.Author.Rules.{rules}
 use Rattle.rules.specs.Answers.{first_row, form_rows}
-use Rattle.rules.specs.Laws.RoundTrip.{header}
+use Rattle.rules.proofs.Laws.RoundTrip.{header}
 use Rattle.box_refusals.proofs.form.Statement.{statement}
 use Rattle.box_refusals.proofs.form.Tie as tie
 

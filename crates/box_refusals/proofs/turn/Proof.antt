@@ -10,7 +10,7 @@ use Rattle.folds.specs.Tests.{◌and◌}
 use Rattle.rules.specs.Messages.{tag_in}
 use Rattle.rules.specs.Record.{is_there, is_done}
 use Rattle.rules.specs.Answers.{first_row, turn_rows}
-use Rattle.rules.specs.Laws.Numbers.{is_box_lem}
+use Rattle.rules.proofs.Laws.Numbers.{is_box_lem}
 use Rattle.box_refusals.proofs.turn.Statement.{statement}
 use Rattle.box_refusals.proofs.turn.Tie as tie
 

@@ -4,8 +4,8 @@ use borrow.Author.Rules.{rules}
 use borrow.Author.Tests.{le-leb, lt-leb}
 use Rattle.rules.specs.Messages.{tag_in, has_matrix}
 use Rattle.rules.specs.Answers.{refusal_heard}
-use Rattle.rules.specs.Laws.Numbers.{is_box_lem}
-use Rattle.rules.specs.Laws.Sound.{sound_ranges}
+use Rattle.rules.proofs.Laws.Numbers.{is_box_lem}
+use Rattle.rules.proofs.Laws.Sound.{sound_ranges}
 use Rattle.box_steps.proofs.refused_at_hearing.Statement.{statement}
 use Rattle.box_steps.proofs.refused_at_hearing.Tie as tie
 

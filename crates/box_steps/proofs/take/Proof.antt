@@ -9,9 +9,9 @@ use Rattle.rules.specs.declared.Side.TheVariants.{ByEcho, ByReady}
 use Rattle.rules.specs.Messages.{tag_in}
 use Rattle.rules.specs.Record.{heard_for}
 use Rattle.rules.specs.Steps.{heard, send_step, point_step, share_step, message_step}
-use Rattle.rules.specs.Laws.Numbers.{is_box_lem}
-use Rattle.rules.specs.Laws.RoundTrip.{is_send_lem, is_echo_lem, is_ready_lem, is_recovery_lem, send_long, share_long, point_long, matrix_long}
-use Rattle.rules.specs.Laws.Sound.{sound_ranges}
+use Rattle.rules.proofs.Laws.Numbers.{is_box_lem}
+use Rattle.rules.proofs.Laws.RoundTrip.{is_send_lem, is_echo_lem, is_ready_lem, is_recovery_lem, send_long, share_long, point_long, matrix_long}
+use Rattle.rules.proofs.Laws.Sound.{sound_ranges}
 use Rattle.box_step.specs.Takes.{takes_as, still}
 use Rattle.box_steps.specs.Sender.{Sender, Speaks}
 use Rattle.box_steps.specs.Laws.{share_silent}

@@ -8,9 +8,9 @@ use Rattle.rules.specs.Messages.{send}
 use Rattle.rules.specs.Dealing.{f_of, f'_of, commitment, polynomials_of}
 use Rattle.rules.specs.Record.{group_in}
 use Rattle.rules.specs.Steps.{deal_step, sending}
-use Rattle.rules.specs.Laws.Matrices.{square_small}
+use Rattle.rules.proofs.Laws.Matrices.{square_small}
 use Rattle.rules.specs.Laws.Numbers.{Ranges}
-use Rattle.rules.specs.Laws.Sound.{sound_ranges}
+use Rattle.rules.proofs.Laws.Sound.{sound_ranges}
 use Rattle.record_writing.specs.Anew.{dealt_after}
 use Rattle.dealing.specs.Rows.{zero_polynomials}
 use Rattle.message_writing.specs.Written.{no_polynomials}

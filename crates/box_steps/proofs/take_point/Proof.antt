@@ -6,7 +6,7 @@ use borrow.Author.Rules.{rules, scaled_Fits}
 use Rattle.rules.specs.declared.Record.{Record}
 use Rattle.rules.specs.Messages.{side_tag}
 use Rattle.rules.specs.Steps.{heard, taken, completed, point_at, point_step}
-use Rattle.rules.specs.Laws.Room.{room}
+use Rattle.rules.proofs.Laws.Room.{room}
 use Rattle.box_step.specs.Takes.{made, takes_as, still, rests}
 use Rattle.box_steps.specs.Laws.{ranges, place, heard_slot, side_hears, point_at_lem, point_sends, point_completes, point_rests}
 use Rattle.box_steps.proofs.take_point.Statement.{statement}

@@ -5,7 +5,7 @@ use lib.ListN.{length}
 use borrow.Author.Rules.{rules, scaled_Fits}
 use Rattle.rules.specs.Messages.{written}
 use Rattle.rules.specs.Steps.{completed_share, share_bytes}
-use Rattle.rules.specs.Laws.Sound.{sound_facts, sound_ranges}
+use Rattle.rules.proofs.Laws.Sound.{sound_facts, sound_ranges}
 use Rattle.box_steps.specs.Laws.{can_send}
 use Rattle.box_steps.proofs.write_own_share.Statement.{statement}
 use Rattle.box_steps.proofs.write_own_share.Tie as tie

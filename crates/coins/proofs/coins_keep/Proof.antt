@@ -6,7 +6,7 @@ use borrow.Author.Tests.{eq-eqb, ne_eqb, lt-ltb, le-ltb}
 use Rattle.rules.specs.declared.Group.{Group}
 use Rattle.rules.specs.Numbers.{group_of}
 use Rattle.rules.specs.Dealing.{coins_keep}
-use Rattle.rules.specs.Laws.Matrices.{square_some, square_small}
+use Rattle.rules.proofs.Laws.Matrices.{square_some, square_small}
 use Rattle.coins.specs.Asked.{in_table}
 use Rattle.coins.proofs.coins_keep.Statement.{statement}
 use Rattle.coins.proofs.coins_keep.Tie as tie

@@ -11,7 +11,7 @@ use Rattle.folds.specs.Found.{found4}
 use Rattle.rules.specs.Numbers.{exponent}
 use Rattle.rules.specs.Matrices.{row, matrix}
 use Rattle.rules.specs.Dealing.{from_coins}
-use Rattle.rules.specs.Laws.Matrices.{row_same, row_within}
+use Rattle.rules.proofs.Laws.Matrices.{row_same, row_within}
 use Rattle.folds.specs.Loops.{Filling, filling_none, filling_more, filling_all}
 use Rattle.coins.proofs.from_coins.Statement.{statement}
 use Rattle.coins.proofs.from_coins.Tie as tie

@@ -10,7 +10,7 @@ use Rattle.rules.specs.declared.Exponent.{Exponent}
 use Rattle.rules.specs.Numbers.{exponent}
 use Rattle.rules.specs.Matrices.{row, coefficient₂}
 use Rattle.rules.specs.Dealing.{value_at}
-use Rattle.rules.specs.Laws.Matrices.{coefficient_at}
+use Rattle.rules.proofs.Laws.Matrices.{coefficient_at}
 use Rattle.folds.specs.Loops.{Filling, filling_none, filling_more, filling_all}
 use Rattle.dealing.specs.Rows.{along_at}
 use Rattle.dealing.proofs.along.Statement.{statement}

@@ -12,10 +12,10 @@ use Rattle.rules.specs.Messages.{Message, tag_of, framed, bytes_of, has_matrix}
 use Rattle.rules.specs.Dealing.{matrix_passes}
 use Rattle.rules.specs.Record.{group_in, heard_for, is_there, is_done, sound}
 use Rattle.rules.specs.Answers.{exponents_keep, checks, deliver_rows, call_rows, form_rows, turn_rows, hearing_rows, early_rows}
-use Rattle.rules.specs.Laws.Table.{none}
-use Rattle.rules.specs.Laws.DemandOne.{deliver_number}
-use Rattle.rules.specs.Laws.Sound.{sound_facts}
-use Rattle.rules.specs.Laws.RoundTrip.{Fits, setup_fits, message_formed, message_ours, message_there, matrix_part, matrix_there}
+use Rattle.rules.proofs.Laws.Table.{none}
+use Rattle.rules.proofs.Laws.DemandOne.{deliver_number}
+use Rattle.rules.proofs.Laws.Sound.{sound_facts}
+use Rattle.rules.proofs.Laws.RoundTrip.{Fits, setup_fits, message_formed, message_ours, message_there, matrix_part, matrix_there}
 use Rattle.demands.specs.Terms.Histories.{gets, doing}
 
 -- ---- what a message needs

@@ -12,7 +12,8 @@ use Rattle.folds.specs.Tests.{and_rest, pick-either, true≢false}
 use Rattle.rules.specs.Numbers.{is_box}
 use Rattle.rules.specs.Messages.{Message, send, echo, ready, recovery, tag_of, framed, bytes_of, tag_in, malformed, foreign, matrix_in, polynomials_in, four_in, pair_in, message_in}
 use Rattle.rules.specs.Answers.{exponents_keep}
-use Rattle.rules.specs.Laws.RoundTrip.{SetUpFits, message_formed, message_ours, message_there, matrix_part, matrix_there}
+use Rattle.rules.specs.Laws.RoundTrip.{SetUpFits}
+use Rattle.rules.proofs.Laws.RoundTrip.{message_formed, message_ours, message_there, matrix_part, matrix_there}
 use Rattle.demands.specs.Terms.Histories.{own, keeps}
 use Rattle.demands.specs.Hiding.Moves.{Twice, numbers, in_set, dealt, zed, moved_message}
 use Rattle.demands.specs.Hiding.Hypotheses.{Given, dealer_box, own_fits, zed-on-set}

@@ -19,10 +19,10 @@ use Rattle.rules.specs.Dealing.{polynomials_below, coins_keep, f_of, f'_of, from
 use Rattle.rules.specs.Record.{sound}
 use Rattle.rules.specs.Steps.{deal_step}
 use Rattle.rules.specs.Answers.{first_of, deal_rows, deal, own_deal_rows, Refusal, first_row}
-use Rattle.rules.specs.Laws.Matrices.{row_same}
-use Rattle.rules.specs.Laws.RoundTrip.{PolynomialFits, PolynomialsFit}
-use Rattle.rules.specs.Laws.Ranges.{dealt_rooms}
-use Rattle.rules.specs.Laws.Passed.{deal_passed}
+use Rattle.rules.proofs.Laws.Matrices.{row_same}
+use Rattle.rules.proofs.Laws.RoundTrip.{PolynomialFits, PolynomialsFit}
+use Rattle.rules.proofs.Laws.Ranges.{dealt_rooms}
+use Rattle.rules.proofs.Laws.Passed.{deal_passed}
 use Rattle.demands.specs.Terms.Histories.{own}
 use Rattle.demands.specs.Terms.Dealing.{dealt_to}
 use Rattle.demands.specs.Sharing.{send_passes}

@@ -23,12 +23,13 @@ use Rattle.rules.specs.Dealing.{matrix_passes, share_check}
 use Rattle.rules.specs.Record.{group_in, slot_at, heard_for, is_done, is_there, matrix_of, sound}
 use Rattle.rules.specs.Steps.{heard, own_slot, free_slot, slot_for, opened, message_step, point_step, taken, ready_due}
 use Rattle.rules.specs.Answers.{first_of, exponents_keep, share_checks, checks, deliver_rows, refusal_heard, deliver, form_rows, turn_rows, hearing_rows, Refusal, first_row, early_rows, call_rows}
-use Rattle.rules.specs.Laws.Numbers.{is_box_lem}
+use Rattle.rules.proofs.Laws.Numbers.{is_box_lem}
 use Rattle.rules.specs.declared.Side.{Side}
 use Rattle.rules.specs.declared.Side.TheVariants.{ByEcho, ByReady}
-use Rattle.rules.specs.Laws.Facts.{ear}
-use Rattle.rules.specs.Laws.RoundTrip.{by_tag, is_send_lem, is_echo_lem, is_ready_lem}
-use Rattle.rules.specs.Laws.Passed.{Passed, rows_passed}
+use Rattle.rules.proofs.Laws.Facts.{ear}
+use Rattle.rules.proofs.Laws.RoundTrip.{by_tag, is_send_lem, is_echo_lem, is_ready_lem}
+use Rattle.rules.specs.Laws.Passed.{Passed}
+use Rattle.rules.proofs.Laws.Passed.{rows_passed}
 use Rattle.demands.specs.Terms.Histories.{own}
 use Rattle.demands.specs.Hiding.Moves.{Twice, numbers, in_set, dealt, zed, moved_message, moved_record, slot-moved, moved_four}
 use Rattle.demands.specs.Hiding.Hypotheses.{Given}

@@ -11,8 +11,10 @@ use Rattle.rules.specs.Numbers.{group_keeps, is_box, numbers_keep}
 use Rattle.rules.specs.Matrices.{coefficient}
 use Rattle.rules.specs.Dealing.{coins_keep, committed}
 use Rattle.rules.specs.Answers.{set_up}
-use Rattle.rules.specs.Laws.Numbers.{Sizes, is_box_lem}
-use Rattle.rules.specs.Laws.RoundTrip.{SetUpFits, setup_fits}
+use Rattle.rules.specs.Laws.Numbers.{Sizes}
+use Rattle.rules.proofs.Laws.Numbers.{is_box_lem}
+use Rattle.rules.specs.Laws.RoundTrip.{SetUpFits}
+use Rattle.rules.proofs.Laws.RoundTrip.{setup_fits}
 use Rattle.demands.specs.Terms.Histories.{own}
 use Rattle.demands.specs.Own
 use Rattle.demands.specs.Own.{own_sound}

@@ -9,8 +9,8 @@ use Rattle.rules.specs.declared.Record.{Record}
 use Rattle.rules.specs.Messages.{written}
 use Rattle.rules.specs.Steps.{Step}
 use Rattle.rules.specs.Answers.{Refusal, Done, done, accepted, refused, answered, call_rows, first_row}
-use Rattle.rules.specs.Laws.DemandOne.{answered_accepted, answered_refused}
-use Rattle.rules.specs.Laws.Lengths.{take-written}
+use Rattle.rules.proofs.Laws.DemandOne.{answered_accepted, answered_refused}
+use Rattle.rules.proofs.Laws.Lengths.{take-written}
 use Rattle.demands.specs.Terms.Histories.{wrote}
 use Rattle.demands.specs.Hiding.Moves.{Twice, moved_record}
 use Rattle.demands.specs.Hiding.SentTwice.{Twin, twin_length}

@@ -23,15 +23,15 @@ use Rattle.rules.specs.Messages.{tag_in, matrix_in}
 use Rattle.rules.specs.Record.{slot_at, is_held, held, matrix_of, same_matrix, is_there}
 use Rattle.rules.specs.Steps.{slot_for, opened, keeping, taken}
 use Rattle.rules.specs.Answers.{set_up, first_of, accepted, deliver_rows}
-use Rattle.rules.specs.Laws.Numbers.{box_is}
+use Rattle.rules.proofs.Laws.Numbers.{box_is}
 use Rattle.rules.specs.declared.Side.{Side}
 use Rattle.rules.specs.declared.Side.TheVariants.{ByEcho, ByReady}
-use Rattle.rules.specs.Laws.Facts.{SlotFacts}
-use Rattle.rules.specs.Laws.Sound.{agree_comm, facts_sound}
-use Rattle.rules.specs.Laws.RoundTrip.{is_echo_lem, is_ready_lem}
-use Rattle.rules.specs.Laws.Room.{Found, room}
+use Rattle.rules.proofs.Laws.Facts.{SlotFacts}
+use Rattle.rules.proofs.Laws.Sound.{agree_comm, facts_sound}
+use Rattle.rules.proofs.Laws.RoundTrip.{is_echo_lem, is_ready_lem}
+use Rattle.rules.proofs.Laws.Room.{Found, room}
 use Rattle.rules.specs.Laws.Passed.{Passed}
-use Rattle.rules.specs.Laws.Kept.Changes.{Good}
+use Rattle.rules.proofs.Laws.Kept.Changes.{Good}
 use Rattle.demands.specs.Terms.Histories.{Call, deals, gets, commanded, own, doing, after}
 use Rattle.demands.specs.Terms.Lives.{checks_now, takes_now, said}
 use Rattle.demands.specs.Lives.{life_sound, places_say}

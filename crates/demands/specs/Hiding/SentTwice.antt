@@ -17,9 +17,9 @@ use Rattle.rules.specs.declared.Polynomials.{Polynomials}
 use Rattle.rules.specs.Matrices.{coefficient}
 use Rattle.rules.specs.Messages.{Message, send, echo, ready, recovery, two_bytes, matrix_bytes, coefficient_bytes, polynomial_bytes, tag_of, body_of, framed, bytes_of, to_each}
 use Rattle.rules.specs.Dealing.{coefficients_below, polynomials_below, four_below}
-use Rattle.rules.specs.Laws.Lengths.{length-to_each}
-use Rattle.rules.specs.Laws.RoundTrip.{MatrixFits, PolynomialFits, PolynomialsFit, FourFits, Fits}
-use Rattle.rules.specs.Laws.Ranges.{four_room, remainders_room, dealt_room}
+use Rattle.rules.proofs.Laws.Lengths.{length-to_each}
+use Rattle.rules.proofs.Laws.RoundTrip.{MatrixFits, PolynomialFits, PolynomialsFit, FourFits, Fits}
+use Rattle.rules.proofs.Laws.Ranges.{four_room, remainders_room, dealt_room}
 use Rattle.demands.specs.Terms.Histories.{message_to}
 use Rattle.demands.specs.MessageTo.{message_to_lem}
 use Rattle.demands.specs.Terms.Secrets.{z, difference, difference'}

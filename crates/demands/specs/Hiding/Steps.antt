@@ -26,10 +26,10 @@ use Rattle.rules.specs.Matrices.{zero_four}
 use Rattle.rules.specs.Messages.{echo, ready, tag_of, bytes_of}
 use Rattle.rules.specs.Record.{slot_at, place_at, matrix_of, count_e, count_r, same_matrix, zero_slot}
 use Rattle.rules.specs.Steps.{with_slots, Said, pair_from, ready_four, echo_four, points, own_slot, free_slot, slot_for, opened, first_point, holding, keeping, Step, quiet, send_step, with_slot, ready_sent, lowest, completing, completed, completion_due, point_at, point_step, taken, ready_due}
-use Rattle.rules.specs.Laws.Checks.{echo_below, ready_below}
+use Rattle.rules.proofs.Laws.Checks.{echo_below, ready_below}
 use Rattle.rules.specs.declared.Side.{Side}
 use Rattle.rules.specs.declared.Side.TheVariants.{ByEcho, ByReady}
-use Rattle.rules.specs.Laws.Kept.OpenSlot.{fresh}
+use Rattle.rules.proofs.Laws.Kept.OpenSlot.{fresh}
 use Rattle.demands.specs.Terms.Histories.{own}
 use Rattle.demands.specs.Terms.Dealing.{Different}
 use Rattle.demands.specs.Hiding.Moves.{Twice, numbers, q, dealt, zed, moved_four, moved_pair, moved_polynomials, moved_point, moved_place, moved_said, movedSlot, moved_record, slot-moved, place_moved, lowest_moved}

@@ -19,8 +19,8 @@ use Rattle.rules.specs.Dealing.{coins_keep}
 use Rattle.rules.specs.Record.{zero_slot, new_record, sound}
 use Rattle.rules.specs.Steps.{recover_step}
 use Rattle.rules.specs.Answers.{first_of, Done, accepted, recover_rows, recover, own_recover_rows, Refusal, first_row}
-use Rattle.rules.specs.Laws.Numbers.{is_box_lem}
-use Rattle.rules.specs.Laws.DemandOne.{answered_accepted}
+use Rattle.rules.proofs.Laws.Numbers.{is_box_lem}
+use Rattle.rules.proofs.Laws.DemandOne.{answered_accepted}
 use Rattle.demands.specs.Terms.Histories.{Call, deals, gets, commanded, own, doing, after, answers, wrote, sendings, message_to, message_at}
 use Rattle.demands.specs.Lives.{life_sound}
 use Rattle.demands.specs.Lives.Born.{born}

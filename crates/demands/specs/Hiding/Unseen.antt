@@ -14,7 +14,7 @@ use Rattle.rules.specs.declared.Four.{Four}
 use Rattle.rules.specs.declared.Polynomials.{Polynomials}
 use Rattle.rules.specs.Matrices.{coefficient, α, α', β, β'}
 use Rattle.rules.specs.Dealing.{polynomials_below, four_below, polynomial_check, point_check, opens, l_equation, j_equation, αEquation, βEquation}
-use Rattle.rules.specs.Laws.Checks.{four_below_lem, polynomials_below_lem, four_lows}
+use Rattle.rules.proofs.Laws.Checks.{four_below_lem, polynomials_below_lem, four_lows}
 use Rattle.demands.specs.Terms.Dealing.{group}
 use Rattle.demands.specs.Terms.Secrets.{z, difference, difference'}
 use Rattle.demands.specs.Hiding.Moves.{Twice, numbers, in_set, q, zed, shifted, shifted', moved_four, moved_by, moved_polynomials}

@@ -21,7 +21,7 @@ use Rattle.rules.specs.Numbers.{exponent}
 use Rattle.rules.specs.Matrices.{coefficient, α, α', β, β', zero_four}
 use Rattle.rules.specs.Dealing.{value_at}
 use Rattle.rules.specs.Steps.{Said, through, pair_from, ready_four, echo_four}
-use Rattle.rules.specs.Laws.Matrices.{coefficient_at}
+use Rattle.rules.proofs.Laws.Matrices.{coefficient_at}
 use Rattle.demands.specs.Terms.Dealing.{none, Different}
 use Rattle.demands.specs.Sharing.{box_at, say_at, places, through_boxes}
 use Rattle.demands.specs.Terms.Secrets.{z, difference, difference'}

@@ -29,9 +29,9 @@ use Rattle.rules.specs.Dealing.{from_coins, f_of, f'_of, coins_keep}
 use Rattle.rules.specs.Record.{slot_at, place_at, is_held, is_there, held, matrix_of, same_matrix}
 use Rattle.rules.specs.Steps.{points, pair_from, ready_four}
 use Rattle.rules.specs.Answers.{set_up}
-use Rattle.rules.specs.Laws.Facts.{SlotFacts, ear}
-use Rattle.rules.specs.Laws.RoundTrip.{is_echo_lem, is_ready_lem}
-use Rattle.rules.specs.Laws.Ranges.{slot_room}
+use Rattle.rules.proofs.Laws.Facts.{SlotFacts, ear}
+use Rattle.rules.proofs.Laws.RoundTrip.{is_echo_lem, is_ready_lem}
+use Rattle.rules.proofs.Laws.Ranges.{slot_room}
 use Rattle.demands.specs.Terms.Honest.{Past, Deal}
 use Rattle.demands.specs.Terms.Histories.{Call, deals, gets, commanded, doing, after, own}
 use Rattle.demands.specs.Histories.{past_self, past_more, past_trans}

@@ -13,13 +13,13 @@ use Rattle.rules.specs.declared.Side.TheVariants.{ByEcho, ByReady}
 use Rattle.rules.specs.Numbers.{element, is_box}
 use Rattle.rules.specs.Messages.{Message, send, echo, ready, recovery, saying, side_tag, tag_of, bytes_of, message_in, to_each}
 use Rattle.rules.specs.Record.{same_matrix}
-use Rattle.rules.specs.Laws.Numbers.{is_box_lem}
-use Rattle.rules.specs.Laws.Matrices.{matrix_same}
-use Rattle.rules.specs.Laws.Dealing.{value_below}
-use Rattle.rules.specs.Laws.Checks.{pair_below_lem, echo_below}
-use Rattle.rules.specs.Laws.Sound.{agree_at}
-use Rattle.rules.specs.Laws.RoundTrip.{MatrixFits, FourFits, Fits, message_there}
-use Rattle.rules.specs.Laws.Ranges.{four_room, pair_room, dealt_room, dealt_rooms}
+use Rattle.rules.proofs.Laws.Numbers.{is_box_lem}
+use Rattle.rules.proofs.Laws.Matrices.{matrix_same}
+use Rattle.rules.proofs.Laws.Dealing.{value_below}
+use Rattle.rules.proofs.Laws.Checks.{pair_below_lem, echo_below}
+use Rattle.rules.proofs.Laws.Sound.{agree_at}
+use Rattle.rules.proofs.Laws.RoundTrip.{MatrixFits, FourFits, Fits, message_there}
+use Rattle.rules.proofs.Laws.Ranges.{four_room, pair_room, dealt_room, dealt_rooms}
 use Rattle.demands.specs.Terms.Honest.{Deal}
 use Rattle.demands.specs.Terms.Histories.{message_to}
 use Rattle.demands.specs.MessageTo.{message_to_lem}

@@ -18,7 +18,7 @@ use Rattle.rules.specs.Messages.{tag_in, pair_in}
 use Rattle.rules.specs.Dealing.{from_coins, f_of, f'_of}
 use Rattle.rules.specs.Record.{share_at}
 use Rattle.rules.specs.Steps.{share_points}
-use Rattle.rules.specs.Laws.RoundTrip.{is_recovery_lem}
+use Rattle.rules.proofs.Laws.RoundTrip.{is_recovery_lem}
 use Rattle.demands.specs.Terms.Honest.{Deal}
 use Rattle.demands.specs.Terms.Histories.{Call, deals, gets, commanded, doing, after, own}
 use Rattle.demands.specs.Histories.{past_self}

@@ -25,7 +25,7 @@ use Rattle.rules.specs.Messages.{send, echo, ready, recovery, matrix_in, polynom
 use Rattle.rules.specs.Dealing.{from_coins, f_of, f'_of}
 use Rattle.rules.specs.Record.{slot_at, is_there}
 use Rattle.rules.specs.Steps.{echo_four, completed_share, share_bytes}
-use Rattle.rules.specs.Laws.RoundTrip.{is_send_lem}
+use Rattle.rules.proofs.Laws.RoundTrip.{is_send_lem}
 use Rattle.demands.specs.Terms.Honest.{Deal}
 use Rattle.demands.specs.Terms.Histories.{Call, deals, gets, doing, after, wrote, sendings, own}
 use Rattle.demands.specs.Histories.{past_self}

@@ -17,11 +17,11 @@ use Rattle.rules.specs.Numbers.{group_keeps, numbers_keep}
 use Rattle.rules.specs.Record.{no_slot, slot_at, zero_slot, new_record, zero_record}
 use Rattle.rules.specs.Steps.{quiet}
 use Rattle.rules.specs.Answers.{accepted, refused, outcome_of, first_of, set_up_rows, set_up}
-use Rattle.rules.specs.Laws.DemandOne.{outcome_number}
-use Rattle.rules.specs.Laws.Facts.{SlotFacts}
-use Rattle.rules.specs.Laws.New.{set_up_sound}
-use Rattle.rules.specs.Laws.Kept.{good_of}
-use Rattle.rules.specs.Laws.Kept.Changes.{Good}
+use Rattle.rules.proofs.Laws.DemandOne.{outcome_number}
+use Rattle.rules.proofs.Laws.Facts.{SlotFacts}
+use Rattle.rules.proofs.Laws.New.{set_up_sound}
+use Rattle.rules.proofs.Laws.Kept.{good_of}
+use Rattle.rules.proofs.Laws.Kept.Changes.{Good}
 use Rattle.demands.specs.Terms.Histories.{Call, after}
 use Rattle.demands.specs.Terms.Dealing.{Sound}
 use Rattle.demands.specs.Lives.Slots.{slot_of, slot_lacks}

@@ -22,10 +22,10 @@ use Rattle.rules.specs.Dealing.{coins_keep}
 use Rattle.rules.specs.Record.{slot_at, is_done, sound}
 use Rattle.rules.specs.Steps.{Step, deal_step, recover_step, completed_share, share_bytes}
 use Rattle.rules.specs.Answers.{done, accepted, answered, first_of, call_rows, own_deal_rows, deal_rows, deal, own_recover_rows, recover_rows, recover, set_up}
-use Rattle.rules.specs.Laws.Table.{none}
-use Rattle.rules.specs.Laws.Sound.{facts_sound}
-use Rattle.rules.specs.Laws.DemandOne.{deal_number, recover_number, outcome_number, answered_accepted}
-use Rattle.rules.specs.Laws.Lengths.{take-written}
+use Rattle.rules.proofs.Laws.Table.{none}
+use Rattle.rules.proofs.Laws.Sound.{facts_sound}
+use Rattle.rules.proofs.Laws.DemandOne.{deal_number, recover_number, outcome_number, answered_accepted}
+use Rattle.rules.proofs.Laws.Lengths.{take-written}
 use Rattle.demands.specs.Terms.Histories.{Call, deals, commanded, doing, after, answers, wrote}
 use Rattle.demands.specs.Terms.Dealing.{sends_of}
 use Rattle.demands.specs.Terms.Lives.{is_send, is_recovery, how_many, Writes}

@@ -23,7 +23,7 @@ use Rattle.rules.specs.Numbers.{echo_quorum}
 use Rattle.rules.specs.Record.{slot_at, marked, matrix_of, is_done, is_there, count_e, count_r, zero_slot}
 use Rattle.rules.specs.Steps.{taken, ready_due, completion_due}
 use Rattle.rules.specs.Answers.{set_up}
-use Rattle.rules.specs.Laws.Kept.TakenSlot.{count_is, count_up}
+use Rattle.rules.proofs.Laws.Kept.TakenSlot.{count_is, count_up}
 use Rattle.demands.specs.Terms.Histories.{Call, after}
 use Rattle.demands.specs.Sharing.{size}
 use Rattle.demands.specs.Terms.Lives.{kept_for}

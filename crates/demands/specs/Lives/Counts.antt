@@ -24,8 +24,8 @@ use Rattle.rules.specs.Steps.{first_point}
 use Rattle.rules.specs.Answers.{set_up}
 use Rattle.rules.specs.declared.Side.{Side}
 use Rattle.rules.specs.declared.Side.TheVariants.{ByEcho, ByReady}
-use Rattle.rules.specs.Laws.Facts.{marks_of, ear}
-use Rattle.rules.specs.Laws.Kept.OpenSlot.{zero-silent, zero_unmarked}
+use Rattle.rules.proofs.Laws.Facts.{marks_of, ear}
+use Rattle.rules.proofs.Laws.Kept.OpenSlot.{zero-silent, zero_unmarked}
 use Rattle.demands.specs.Terms.Histories.{Call, after}
 use Rattle.demands.specs.Terms.Dealing.{group}
 use Rattle.demands.specs.Terms.Lives.{checks_now, checked, takes_now, four_of, said, e_of, r_of}

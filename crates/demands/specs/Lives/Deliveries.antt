@@ -24,17 +24,18 @@ use Rattle.rules.specs.Dealing.{point_check}
 use Rattle.rules.specs.Record.{group_in, same_matrix, sound}
 use Rattle.rules.specs.Steps.{heard, send_step, slot_for, share_step, message_step}
 use Rattle.rules.specs.Answers.{Done, accepted, refused, answered, first_of, share_checks, deliver_rows, refusal_heard, deliver, first_row}
-use Rattle.rules.specs.Laws.Numbers.{is_box_lem}
-use Rattle.rules.specs.Laws.DemandOne.{outcome_number, answered_accepted, answered_refused}
+use Rattle.rules.proofs.Laws.Numbers.{is_box_lem}
+use Rattle.rules.proofs.Laws.DemandOne.{outcome_number, answered_accepted, answered_refused}
 use Rattle.rules.specs.declared.Side.{Side}
 use Rattle.rules.specs.declared.Side.TheVariants.{ByEcho, ByReady}
-use Rattle.rules.specs.Laws.Facts.{ear, hears, needed}
-use Rattle.rules.specs.Laws.Sound.{facts_sound}
-use Rattle.rules.specs.Laws.RoundTrip.{is_send_lem, is_echo_lem, is_ready_lem, is_recovery_lem, by_tag}
-use Rattle.rules.specs.Laws.Room.{Found, room}
-use Rattle.rules.specs.Laws.Kept.{deliver_kept, good_of}
-use Rattle.rules.specs.Laws.Passed.{Passed, rows_passed}
-use Rattle.rules.specs.Laws.Kept.Changes.{Good, hears_own, hears_stays}
+use Rattle.rules.proofs.Laws.Facts.{ear, hears, needed}
+use Rattle.rules.proofs.Laws.Sound.{facts_sound}
+use Rattle.rules.proofs.Laws.RoundTrip.{is_send_lem, is_echo_lem, is_ready_lem, is_recovery_lem, by_tag}
+use Rattle.rules.proofs.Laws.Room.{Found, room}
+use Rattle.rules.proofs.Laws.Kept.{deliver_kept, good_of}
+use Rattle.rules.specs.Laws.Passed.{Passed}
+use Rattle.rules.proofs.Laws.Passed.{rows_passed}
+use Rattle.rules.proofs.Laws.Kept.Changes.{Good, hears_own, hears_stays}
 use Rattle.demands.specs.Terms.Histories.{Call, deals, gets, commanded, doing}
 use Rattle.demands.specs.Terms.Lives.{checks_now, share_now, is_echo, is_ready}
 use Rattle.demands.specs.Lives.Stepped.{JustNow, Stays, as_before, OwnMarks, marks_stay, step_of, stepped, shared}

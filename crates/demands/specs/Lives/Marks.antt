@@ -22,8 +22,8 @@ use Rattle.demands.specs.Lives.Stepped.{Once, OwnMarks}
 use Rattle.demands.specs.Lives.Turns.{next, Turn}
 use Rattle.demands.specs.Lives.Born.{born, turn_at}
 use Rattle.rules.specs.Steps.{deal_step}
-use Rattle.rules.specs.Laws.Table.{past}
-use Rattle.rules.specs.Laws.DemandOne.{outcome_number, answered_accepted}
+use Rattle.rules.proofs.Laws.Table.{past}
+use Rattle.rules.proofs.Laws.DemandOne.{outcome_number, answered_accepted}
 use Rattle.demands.specs.Histories.{past_none, past_cases}
 use Rattle.demands.specs.Lives.Once.{told_up, one_at_most}
 

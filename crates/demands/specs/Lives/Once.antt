@@ -14,7 +14,7 @@ use Rattle.rules.specs.declared.Completion.TheVariants.{NotYet, With}
 use Rattle.rules.specs.declared.SetUp.{SetUp}
 use Rattle.rules.specs.Record.{is_done}
 use Rattle.rules.specs.Answers.{set_up}
-use Rattle.rules.specs.Laws.Facts.{hears}
+use Rattle.rules.proofs.Laws.Facts.{hears}
 use Rattle.demands.specs.Terms.Histories.{Call, doing, after, answers}
 use Rattle.demands.specs.Terms.Lives.{is_echo, how_many}
 use Rattle.demands.specs.Lives.Stepped.{Stays}

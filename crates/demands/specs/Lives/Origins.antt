@@ -21,16 +21,17 @@ use Rattle.rules.specs.Dealing.{coins_keep, matrix_passes, polynomial_check}
 use Rattle.rules.specs.Record.{slot_at, matrix_of, is_done, is_there, shares_kept}
 use Rattle.rules.specs.Steps.{Step, heard, points, ready_four, echo_four, own_slot, free_slot, slot_for, opened, keeping, send_step, ready_sent, completed, sharing, recovering, share_step, message_step, deal_step, completed_share, share_bytes, recover_step, completion_due, point_at, point_step, taken, ready_due}
 use Rattle.rules.specs.Answers.{accepted, refused, answered, first_of, deal_rows, deal, recover, refusal_heard, deliver, Done, first_row, deliver_rows}
-use Rattle.rules.specs.Laws.DemandOne.{answered_either}
+use Rattle.rules.proofs.Laws.DemandOne.{answered_either}
 use Rattle.rules.specs.declared.Side.{Side}
 use Rattle.rules.specs.declared.Side.TheVariants.{ByEcho, ByReady}
-use Rattle.rules.specs.Laws.Sound.{facts_sound}
-use Rattle.rules.specs.Laws.Lengths.{take-written}
-use Rattle.rules.specs.Laws.RoundTrip.{is_send_lem, is_echo_lem, is_ready_lem, is_recovery_lem, by_tag}
-use Rattle.rules.specs.Laws.Room.{Found, room}
-use Rattle.rules.specs.Laws.Agreement.{agree_self}
-use Rattle.rules.specs.Laws.Passed.{Passed, deal_passed, recover_passed}
-use Rattle.rules.specs.Laws.Kept.Changes.{Good}
+use Rattle.rules.proofs.Laws.Sound.{facts_sound}
+use Rattle.rules.proofs.Laws.Lengths.{take-written}
+use Rattle.rules.proofs.Laws.RoundTrip.{is_send_lem, is_echo_lem, is_ready_lem, is_recovery_lem, by_tag}
+use Rattle.rules.proofs.Laws.Room.{Found, room}
+use Rattle.rules.proofs.Laws.Agreement.{agree_self}
+use Rattle.rules.specs.Laws.Passed.{Passed}
+use Rattle.rules.proofs.Laws.Passed.{deal_passed, recover_passed}
+use Rattle.rules.proofs.Laws.Kept.Changes.{Good}
 use Rattle.demands.specs.Terms.Histories.{Call, deals, gets, commanded, doing, wrote}
 use Rattle.demands.specs.Terms.Dealing.{group, order, sends_of}
 use Rattle.demands.specs.Lives.Commands.{deal_sends}

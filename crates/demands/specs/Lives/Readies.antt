@@ -23,11 +23,11 @@ use Rattle.rules.specs.Dealing.{matrix_passes, point_check, share_check}
 use Rattle.rules.specs.Record.{marked, is_there, held, count_e, count_r, zero_slot}
 use Rattle.rules.specs.Steps.{points, pair_from, taken, ready_due}
 use Rattle.rules.specs.Answers.{set_up}
-use Rattle.rules.specs.Laws.Numbers.{quorum}
+use Rattle.rules.proofs.Laws.Numbers.{quorum}
 use Rattle.rules.specs.Laws.Shape.{ShapedSlot}
 use Rattle.rules.specs.declared.Side.{Side}
-use Rattle.rules.specs.Laws.Facts.{marks_of, PairRight, SlotFacts}
-use Rattle.rules.specs.Laws.Kept.TakenSlot.{other, count_of, aim, count_grows, count_up, either_side, due_sides}
+use Rattle.rules.proofs.Laws.Facts.{marks_of, PairRight, SlotFacts}
+use Rattle.rules.proofs.Laws.Kept.TakenSlot.{other, count_of, aim, count_grows, count_up, either_side, due_sides}
 use Rattle.demands.specs.Terms.Honest.{Past}
 use Rattle.demands.specs.Terms.Histories.{Call, after}
 use Rattle.demands.specs.Terms.Dealing.{group, order, Different}

@@ -23,8 +23,8 @@ use Rattle.rules.specs.Dealing.{committed, matrix_passes, share_check}
 use Rattle.rules.specs.Record.{nothing, slot_at, share_at, is_there, is_done, matrix_of, shares_kept, new_record}
 use Rattle.rules.specs.Steps.{recovered_from, share_points, sharing}
 use Rattle.rules.specs.Answers.{no_pair, set_up, share_checks}
-use Rattle.rules.specs.Laws.Facts.{Facts}
-use Rattle.rules.specs.Laws.Kept.Changes.{Good}
+use Rattle.rules.proofs.Laws.Facts.{Facts}
+use Rattle.rules.proofs.Laws.Kept.Changes.{Good}
 use Rattle.demands.specs.Terms.Histories.{Call, after}
 use Rattle.demands.specs.Terms.Dealing.{group, order, Different}
 use Rattle.demands.specs.Sharing.{shares_open}

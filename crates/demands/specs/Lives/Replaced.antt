@@ -15,11 +15,11 @@ use Rattle.rules.specs.declared.SetUp.{SetUp}
 use Rattle.rules.specs.declared.Slot.{Slot}
 use Rattle.rules.specs.Record.{no_slot, slot_at, matrix_of, same_matrix}
 use Rattle.rules.specs.Steps.{opened}
-use Rattle.rules.specs.Laws.Sound.{agree_comm}
-use Rattle.rules.specs.Laws.Agreement.{agree_self, agree_trans}
-use Rattle.rules.specs.Laws.Room.{Found}
-use Rattle.rules.specs.Laws.Kept.OpenSlot.{open_same, open_new}
-use Rattle.rules.specs.Laws.Kept.Changes.{Good}
+use Rattle.rules.proofs.Laws.Sound.{agree_comm}
+use Rattle.rules.proofs.Laws.Agreement.{agree_self, agree_trans}
+use Rattle.rules.proofs.Laws.Room.{Found}
+use Rattle.rules.proofs.Laws.Kept.OpenSlot.{open_same, open_new}
+use Rattle.rules.proofs.Laws.Kept.Changes.{Good}
 use Rattle.demands.specs.Lives.Slots.{slot_of, Has, Lacks, some_has, slot_has, slot_lacks}
 
 -- what a slot holds, in use and with these rows

@@ -13,9 +13,9 @@ use Rattle.rules.specs.Record.{group_in, is_done, marked, same_matrix}
 use Rattle.rules.specs.Steps.{taken, completion_due}
 use Rattle.rules.specs.declared.Side.{Side}
 use Rattle.rules.specs.declared.Side.TheVariants.{ByEcho, ByReady}
-use Rattle.rules.specs.Laws.Facts.{marks_of, ear}
-use Rattle.rules.specs.Laws.Agreement.{passes_agree, point_agree}
-use Rattle.rules.specs.Laws.Kept.Changes.{Good}
+use Rattle.rules.proofs.Laws.Facts.{marks_of, ear}
+use Rattle.rules.proofs.Laws.Agreement.{passes_agree, point_agree}
+use Rattle.rules.proofs.Laws.Kept.Changes.{Good}
 use Rattle.demands.specs.Terms.Histories.{Call, doing}
 use Rattle.demands.specs.Terms.Lives.{checks_now, sender_of, takes_now, four_of, is_ready}
 use Rattle.demands.specs.Lives.Slots.{slot_of, slot_same, slot_unmarked}

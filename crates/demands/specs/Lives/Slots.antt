@@ -22,12 +22,12 @@ use Rattle.rules.specs.Record.{slot_at, marked, is_there, matrix_of, same_matrix
 use Rattle.rules.specs.Steps.{own_slot}
 use Rattle.rules.specs.Laws.Shape.{ShapedSlot}
 use Rattle.rules.specs.declared.Side.{Side}
-use Rattle.rules.specs.Laws.Facts.{marks_of, ear, hears, SlotFacts}
-use Rattle.rules.specs.Laws.Sound.{sound_facts, agree_comm}
-use Rattle.rules.specs.Laws.Agreement.{agree_self, agree_trans, agree_either}
-use Rattle.rules.specs.Laws.New.{new_sound, zero-slot}
-use Rattle.rules.specs.Laws.Kept.OpenSlot.{zero_unmarked}
-use Rattle.rules.specs.Laws.Kept.Changes.{Good}
+use Rattle.rules.proofs.Laws.Facts.{marks_of, ear, hears, SlotFacts}
+use Rattle.rules.proofs.Laws.Sound.{sound_facts, agree_comm}
+use Rattle.rules.proofs.Laws.Agreement.{agree_self, agree_trans, agree_either}
+use Rattle.rules.proofs.Laws.New.{new_sound, zero-slot}
+use Rattle.rules.proofs.Laws.Kept.OpenSlot.{zero_unmarked}
+use Rattle.rules.proofs.Laws.Kept.Changes.{Good}
 use Rattle.demands.specs.Terms.Lives.{e_of, r_of, kept_for}
 
 -- ---- the slot

@@ -22,7 +22,7 @@ use Rattle.rules.specs.declared.Slot.{Slot}
 use Rattle.rules.specs.Record.{group_in, slot_at, is_done, shares_kept}
 use Rattle.rules.specs.Steps.{Step, with_progress, with_shares, with_slot, heard, points, pair_from, own_slot, free_slot, slot_for, opened, taken, keeping, ready_sent, first_completion, completing, completed, ready_due, completion_due, point_at, point_step, recovered_from, share_points, sharing, recovering, share_step}
 use Rattle.rules.specs.declared.Side.{Side}
-use Rattle.rules.specs.Laws.Facts.{ear}
+use Rattle.rules.proofs.Laws.Facts.{ear}
 use Rattle.demands.specs.Terms.Lives.{is_send, is_echo, is_ready, is_recovery}
 
 -- ---- completion

@@ -21,10 +21,10 @@ use Rattle.rules.specs.Steps.{mark, points, pair_from, slot_for, opened, first_p
 use Rattle.rules.specs.Laws.Shape.{ShapedSlot}
 use Rattle.rules.specs.declared.Side.{Side}
 use Rattle.rules.specs.declared.Side.TheVariants.{ByEcho, ByReady}
-use Rattle.rules.specs.Laws.Facts.{marks_of, ear}
-use Rattle.rules.specs.Laws.Room.{Found}
-use Rattle.rules.specs.Laws.Kept.TakenSlot.{mark_own, mark_other, place_own, place_other}
-use Rattle.rules.specs.Laws.Kept.Changes.{Good}
+use Rattle.rules.proofs.Laws.Facts.{marks_of, ear}
+use Rattle.rules.proofs.Laws.Room.{Found}
+use Rattle.rules.proofs.Laws.Kept.TakenSlot.{mark_own, mark_other, place_own, place_other}
+use Rattle.rules.proofs.Laws.Kept.Changes.{Good}
 use Rattle.demands.specs.Lives.Slots.{Has, slot_of, slot_agree}
 use Rattle.demands.specs.Lives.Replaced.{dressed, open_as, new_has, slot_own, slot_other, slot_stays}
 use Rattle.demands.specs.Lives.Stepped.{step_of, paired, stepped}

@@ -21,13 +21,13 @@ use Rattle.rules.specs.Dealing.{matrix_passes, point_check}
 use Rattle.rules.specs.Record.{group_in, slot_at, matrix_of, is_there, shares_kept, same_matrix}
 use Rattle.rules.specs.Steps.{Step, heard, with_progress, sending, recovered_from, share_points, sharing, deal_step, recover_step}
 use Rattle.rules.specs.Answers.{accepted, refused, answered, share_checks, deal, recover, Done}
-use Rattle.rules.specs.Laws.DemandOne.{answered_either}
+use Rattle.rules.proofs.Laws.DemandOne.{answered_either}
 use Rattle.rules.specs.declared.Side.{Side}
-use Rattle.rules.specs.Laws.Facts.{ear, hears}
-use Rattle.rules.specs.Laws.Sound.{facts_sound}
-use Rattle.rules.specs.Laws.Passed.{deal_passed, recover_passed}
-use Rattle.rules.specs.Laws.Kept.{deal_kept, recover_kept, good_of}
-use Rattle.rules.specs.Laws.Kept.Changes.{Good, hears_stays}
+use Rattle.rules.proofs.Laws.Facts.{ear, hears}
+use Rattle.rules.proofs.Laws.Sound.{facts_sound}
+use Rattle.rules.proofs.Laws.Passed.{deal_passed, recover_passed}
+use Rattle.rules.proofs.Laws.Kept.{deal_kept, recover_kept, good_of}
+use Rattle.rules.proofs.Laws.Kept.Changes.{Good, hears_stays}
 use Rattle.demands.specs.Terms.Histories.{Call, deals, commanded, doing}
 use Rattle.demands.specs.Terms.Lives.{checks_now, sender_of, four_of, share_now, pair_of, is_echo, is_ready}
 use Rattle.demands.specs.Lives.Stepped.{JustNow, Stays, as_before, OwnMarks, marks_stay}

@@ -8,7 +8,7 @@ use Rattle.rules.specs.declared.Element.{Element}
 use Rattle.rules.specs.declared.Record.{Record}
 use Rattle.rules.specs.declared.SetUp.{SetUp}
 use Rattle.rules.specs.Answers.{Done, set_up, deal, recover}
-use Rattle.rules.specs.UselessBoxes.{Station, are_bytes}
+use Rattle.rules.proofs.UselessBoxes.{Station, are_bytes}
 use Rattle.demands.specs.Terms.Histories.{Call, deals, gets, commanded}
 use Rattle.demands.specs.Terms.Lives.{checks_by}
 

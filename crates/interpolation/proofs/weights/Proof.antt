@@ -9,7 +9,7 @@ use Rattle.folds.specs.Loops.{Filling, filling_none, filling_more, filling_all}
 use Rattle.rules.specs.declared.Exponent.{Exponent}
 use Rattle.rules.specs.Numbers.{exponent}
 use Rattle.rules.specs.Matrices.{row, coefficient}
-use Rattle.rules.specs.Laws.Matrices.{coefficient_at}
+use Rattle.rules.proofs.Laws.Matrices.{coefficient_at}
 use Rattle.interpolation.specs.declared.Points.{Points}
 use Rattle.interpolation.specs.Lagrange.{inverse_at, inverse_row, weight_at, weight_row, Based}
 use Rattle.interpolation.proofs.weights.Statement.{statement}

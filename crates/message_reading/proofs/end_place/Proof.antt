@@ -3,7 +3,7 @@
 use borrow.Author.Rules.{rules}
 use native.Mathlib.Omega.{arith}
 use mathlib.Core.Path.{refl}
-use Rattle.rules.specs.Laws.Matrices.{square_small}
+use Rattle.rules.proofs.Laws.Matrices.{square_small}
 use Rattle.message_reading.proofs.end_place.Statement.{statement}
 use Rattle.message_reading.proofs.end_place.Tie as tie
 

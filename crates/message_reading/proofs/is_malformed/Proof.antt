@@ -10,7 +10,7 @@ use lib.ListN.{get_or}
 use borrow.Author.Tests.{eq-eqb, ne_eqb, lt-ltb, le-ltb, le-leb, lt-leb}
 use Rattle.folds.specs.Tests.{◌and◌, ◌or◌, and_false}
 use Rattle.rules.specs.Messages.{tag_in, has_matrix, malformed}
-use Rattle.rules.specs.Laws.Lengths.{whole_length_least}
+use Rattle.rules.proofs.Laws.Lengths.{whole_length_least}
 use Rattle.message_reading.proofs.is_malformed.Statement.{statement}
 use Rattle.message_reading.proofs.is_malformed.Tie as tie
 

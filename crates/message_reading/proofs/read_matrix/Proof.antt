@@ -7,7 +7,7 @@ use Rattle.folds.specs.Loops.{Filling, filling_none, filling_more, filling_all}
 use Rattle.rules.specs.Numbers.{element}
 use Rattle.rules.specs.Matrices.{row, matrix}
 use Rattle.rules.specs.Messages.{word, matrix_in}
-use Rattle.rules.specs.Laws.Matrices.{row_same, row_within}
+use Rattle.rules.proofs.Laws.Matrices.{row_same, row_within}
 use Rattle.message_reading.specs.Reading.{row_in}
 use Rattle.message_reading.proofs.read_matrix.Statement.{statement}
 use Rattle.message_reading.proofs.read_matrix.Tie as tie

@@ -5,7 +5,7 @@ use native.Mathlib.Omega.{arith}
 use Rattle.folds.specs.Runs.{gather}
 use Rattle.rules.specs.Matrices.{entry}
 use Rattle.rules.specs.Messages.{two_bytes, matrix_bytes}
-use Rattle.rules.specs.Laws.Matrices.{row_within}
+use Rattle.rules.proofs.Laws.Matrices.{row_within}
 use Rattle.message_writing.specs.Written.{row_bytes}
 use Rattle.message_writing.specs.Laws.{Put, put_none, put_more, put_all}
 use Rattle.message_writing.proofs.put_matrix.Statement.{statement}

@@ -4,7 +4,7 @@ use borrow.Author.Rules.{rules}
 use Prim.Native.Nat.{◌*◌, ◌≤◌}
 use native.Mathlib.Omega.{arith}
 use Rattle.folds.specs.Found.{found3}
-use Rattle.rules.specs.Laws.Matrices.{square_small}
+use Rattle.rules.proofs.Laws.Matrices.{square_small}
 use Rattle.message_writing.specs.Written.{opening_bytes}
 use Rattle.message_writing.specs.Laws.{puts_wide, puts_then}
 use Rattle.message_writing.proofs.put_opening.Statement.{statement}

@@ -11,7 +11,7 @@ use Rattle.folds.specs.Below.{all_below, all_below-zero, all_below_more}
 use Rattle.rules.specs.declared.Element.{Element}
 use Rattle.rules.specs.declared.Slot.{Slot}
 use Rattle.rules.specs.Record.{matrix_of, same_matrix}
-use Rattle.rules.specs.Laws.Sound.{agree_comm}
+use Rattle.rules.proofs.Laws.Sound.{agree_comm}
 use Rattle.folds.specs.Loops.{all_fails, all_passed}
 use Rattle.record_reading.specs.Slots.{slot_in, has_matrix}
 use Rattle.record_clauses.specs.Clauses.{differ_from}

@@ -10,7 +10,7 @@ use Rattle.rules.specs.declared.Group.{Group}
 use Rattle.rules.specs.declared.Record.{Record}
 use Rattle.rules.specs.Numbers.{group_of, group_keeps, numbers_keep}
 use Rattle.rules.specs.Record.{group_in, sound}
-use Rattle.rules.specs.Laws.Numbers.{bounds, group_rule}
+use Rattle.rules.proofs.Laws.Numbers.{bounds, group_rule}
 use Rattle.record_clauses.specs.Clauses.{every_slot, slot_keeps}
 use Rattle.record_soundness.specs.Clauses.{recovery_passes, senders_clear}
 use Rattle.record_soundness.specs.Sound.{Tests, tests, tests_sound}

@@ -4,7 +4,7 @@ use Prim.Native.Nat.{◌*◌}
 use native.Mathlib.Omega.{arith}
 use borrow.Author.Rules.{rules}
 use Rattle.rules.specs.Text.{number_place}
-use Rattle.rules.specs.Laws.Matrices.{square_small}
+use Rattle.rules.proofs.Laws.Matrices.{square_small}
 use Rattle.sheet_form.proofs.boxes_place.Statement.{statement}
 use Rattle.sheet_form.proofs.boxes_place.Tie as tie
 

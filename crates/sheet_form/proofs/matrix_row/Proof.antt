@@ -9,7 +9,7 @@ use Rattle.rules.specs.Numbers.{element}
 use Rattle.rules.specs.Matrices.{row}
 use Rattle.rules.specs.Text.{number_at}
 use Rattle.rules.specs.Sheet.{matrix_place}
-use Rattle.rules.specs.Laws.Matrices.{square_small, row_within}
+use Rattle.rules.proofs.Laws.Matrices.{square_small, row_within}
 use Rattle.sheet_form.specs.Reading.{sheet_row}
 use Rattle.sheet_form.proofs.matrix_row.Statement.{statement}
 use Rattle.sheet_form.proofs.matrix_row.Tie as tie

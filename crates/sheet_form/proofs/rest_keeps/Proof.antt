@@ -10,7 +10,7 @@ use borrow.Author.Rules.{rules}
 use Rattle.folds.specs.Below.{all_below, all_below-zero, all_below_more, all_below_not}
 use Rattle.rules.specs.Text.{numbers_at}
 use Rattle.rules.specs.Sheet.{matrix_place, boxes_place, next_line, line_place, box_line_keeps, rest_keeps}
-use Rattle.rules.specs.Laws.Matrices.{square_small}
+use Rattle.rules.proofs.Laws.Matrices.{square_small}
 use Rattle.sheet_form.specs.Laws.{line_keeps, line_place-zero, line_place_more}
 use Rattle.sheet_form.proofs.rest_keeps.Statement.{statement}
 use Rattle.sheet_form.proofs.rest_keeps.Tie as tie

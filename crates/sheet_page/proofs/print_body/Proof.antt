@@ -8,7 +8,7 @@ use Rattle.rules.specs.Numbers.{group_of}
 use Rattle.rules.specs.Dealing.{matrix_passes}
 use Rattle.rules.specs.Text.{text}
 use Rattle.rules.specs.Sheet.{matrix_place, sheet_matrix, body_printed}
-use Rattle.rules.specs.Laws.Numbers.{sizes, group_sizes}
+use Rattle.rules.proofs.Laws.Numbers.{sizes, group_sizes}
 use Rattle.sheet_form.specs.Reading.{FirstLine, Whole}
 use Rattle.sheet_form.specs.Laws.{whole_entries}
 use Rattle.sheet_page.proofs.print_body.Statement.{statement}

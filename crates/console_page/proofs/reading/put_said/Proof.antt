@@ -7,7 +7,8 @@ use borrow.Author.Rules.{rules}
 use Rattle.rules.specs.declared.SetUp.{SetUp}
 use Rattle.rules.specs.Messages.{tag_in, matrix_in, polynomials_in, four_in, pair_in}
 use Rattle.rules.specs.Text.{text}
-use Rattle.rules.specs.Laws.RoundTrip.{Formed, formed, by_tag, header, send_long, share_long, point_long, is_send_lem, is_echo_lem, is_ready_lem, is_recovery_lem}
+use Rattle.rules.specs.Laws.RoundTrip.{Formed}
+use Rattle.rules.proofs.Laws.RoundTrip.{formed, by_tag, header, send_long, share_long, point_long, is_send_lem, is_echo_lem, is_ready_lem, is_recovery_lem}
 use Rattle.text.specs.Puts.{Puts, puts_room}
 use Rattle.console_page.specs.Reading.{message_text, send_line, point_line, share_line, said_line}
 use Rattle.console_page.proofs.reading.put_said.Statement.{statement}

@@ -4,7 +4,7 @@ use Prim.Native.Nat.{◌+◌, ◌*◌}
 use native.Mathlib.Omega.{arith}
 use borrow.Author.Rules.{rules}
 use borrow.Author.Tests.{eq-eqb, ne_eqb, le-leb, lt-leb}
-use Rattle.rules.specs.Laws.Matrices.{square_small}
+use Rattle.rules.proofs.Laws.Matrices.{square_small}
 use Rattle.sheet_reasons.specs.Lines.{spaces_in_le}
 use Rattle.sheet_reasons.specs.Reasons.{count_reason, own_reason}
 use Rattle.sheet_reasons.proofs.bad.own_reason.Statement.{statement}

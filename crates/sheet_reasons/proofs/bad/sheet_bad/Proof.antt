@@ -8,7 +8,7 @@ use borrow.Author.Rules.{rules}
 use borrow.Author.Tests.{lt-ltb, le-ltb}
 use Rattle.rules.specs.Numbers.{group_keeps, sizes_keep}
 use Rattle.rules.specs.Sheet.{sheet_set_up, first_line_keeps}
-use Rattle.rules.specs.Laws.Numbers.{sizes}
+use Rattle.rules.proofs.Laws.Numbers.{sizes}
 use Rattle.sheet_reasons.specs.Reasons.{line_reason, bad, rest_bad, sheet_bad}
 use Rattle.sheet_reasons.proofs.bad.sheet_bad.Statement.{statement}
 use Rattle.sheet_reasons.proofs.bad.sheet_bad.Tie as tie

@@ -15,7 +15,7 @@ use Rattle.algebra.specs.Commitments.{commit_base}
 use Rattle.rules.specs.declared.Group.{Group}
 use Rattle.rules.specs.Numbers.{logarithm}
 use Rattle.rules.specs.Dealing.{committed}
-use Rattle.rules.specs.Laws.Numbers.{GroupRule}
+use Rattle.rules.proofs.Laws.Numbers.{GroupRule}
 
 module _ (G : Group) (rule : GroupRule G) where
   log_le : logarithm G ≤ G.q

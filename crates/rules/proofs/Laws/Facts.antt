@@ -18,7 +18,7 @@ use Rattle.rules.specs.declared.Side.TheVariants.{ByEcho, ByReady}
 use Rattle.rules.specs.Numbers.{group_of, group_keeps, numbers_keep, echo_quorum}
 use Rattle.rules.specs.Dealing.{matrix_passes}
 use Rattle.rules.specs.Record.{no_marks, no_slot, slot_at, marked, place_at, share_at, matrix_of, is_there, is_done, held, count_e, count_r, shares_kept, same_matrix, point_below, kept_below, entries_zero}
-use Rattle.rules.specs.Laws.Numbers.{bounds, quorum, group_rule}
+use Rattle.rules.proofs.Laws.Numbers.{bounds, quorum, group_rule}
 
 -- ---- echo and ready
 

@@ -20,7 +20,7 @@ use Rattle.rules.specs.declared.SetUp.{SetUp}
 use Rattle.rules.specs.Numbers.{exponent, group_of}
 use Rattle.rules.specs.Matrices.{coefficient, coefficient₂}
 use Rattle.rules.specs.Dealing.{from_coins, f_of, f'_of, along_y, along_x, coins_keep, value_at}
-use Rattle.rules.specs.Laws.Matrices.{matrix_at, coefficient_at, square_some}
+use Rattle.rules.proofs.Laws.Matrices.{matrix_at, coefficient_at, square_some}
 
 -- ---- coefficients
 

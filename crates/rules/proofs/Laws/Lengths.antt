@@ -26,8 +26,8 @@ use Rattle.rules.specs.Matrices.{entry, coefficient}
 use Rattle.rules.specs.Messages.{Message, send, echo, ready, recovery, two_bytes, matrix_bytes, coefficient_bytes, polynomial_bytes, four_bytes, pair_bytes, tag_of, body_of, framed, bytes_of, whole_length, to_each, written}
 use Rattle.rules.specs.Record.{shares_kept, setup_keeps, sound}
 use Rattle.rules.specs.Steps.{Step, Said, heard, quiet, with_slot, lowest, send_step, ready_sent, completed, ready_due, completion_due, point_at, point_step, recovering, share_step, message_step, deal_step, completed_share, share_bytes, recover_step}
-use Rattle.rules.specs.Laws.Numbers.{bounds}
-use Rattle.rules.specs.Laws.Clauses.{clauses}
+use Rattle.rules.proofs.Laws.Numbers.{bounds}
+use Rattle.rules.proofs.Laws.Clauses.{clauses}
 
 -- ---- whole lengths
 

@@ -26,8 +26,8 @@ use Rattle.rules.specs.Steps.{mark, first_point, side_marks, taken, keeping, rea
 use Rattle.rules.specs.Laws.Shape.{ShapedSlot}
 use Rattle.rules.specs.declared.Side.{Side}
 use Rattle.rules.specs.declared.Side.TheVariants.{ByEcho, ByReady}
-use Rattle.rules.specs.Laws.Facts.{marks_of, Needed, Contents, PairRight}
-use Rattle.rules.specs.Laws.Kept.OpenSlot.{OpenFacts}
+use Rattle.rules.proofs.Laws.Facts.{marks_of, Needed, Contents, PairRight}
+use Rattle.rules.proofs.Laws.Kept.OpenSlot.{OpenFacts}
 
 abbrev pub other : Side → Side
 other ByEcho = ByReady

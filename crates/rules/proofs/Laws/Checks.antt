@@ -25,7 +25,7 @@ use Rattle.rules.specs.declared.Polynomials.{Polynomials}
 use Rattle.rules.specs.Matrices.{entry, coefficient, α, α', β, β'}
 use Rattle.rules.specs.Dealing.{committed, in_group, matrix_passes, coefficients_below, polynomials_below, four_below, pair_below, opens, along_column, along_row, l_equation, j_equation, polynomial_check, opened_at, αEquation, βEquation, point_check, σEquation, share_check}
 use Rattle.rules.specs.Steps.{Said, through, pair_from, ready_four, echo_four, recovered_from}
-use Rattle.rules.specs.Laws.Dealing.{value_below}
+use Rattle.rules.proofs.Laws.Dealing.{value_below}
 
 -- ---- an equation of a check
 

@@ -19,11 +19,12 @@ use Rattle.rules.specs.declared.Record.{Record}
 use Rattle.rules.specs.Numbers.{group_keeps}
 use Rattle.rules.specs.Matrices.{entry}
 use Rattle.rules.specs.Record.{group_in, slot_at, heard_for, place_at, share_at, matrix_of, is_there, is_done, held, shares_kept, same_matrix, setup_keeps, point_below, kept_below, slot_below, exponents_below, matrices_differ, matrices_pass, echo_mark, ready_mark, marks_keep, places_keep, use_keeps, pair_keeps, completion_keeps, recovery_keeps, dealt_keeps, entries_zero, sender_zero, unused_zero, sound}
-use Rattle.rules.specs.Laws.Numbers.{Ranges, ranges}
-use Rattle.rules.specs.Laws.Clauses.{Clauses, clauses, is_sound}
+use Rattle.rules.specs.Laws.Numbers.{Ranges}
+use Rattle.rules.proofs.Laws.Numbers.{ranges}
+use Rattle.rules.proofs.Laws.Clauses.{Clauses, clauses, is_sound}
 use Rattle.rules.specs.declared.Side.{Side}
 use Rattle.rules.specs.declared.Side.TheVariants.{ByEcho, ByReady}
-use Rattle.rules.specs.Laws.Facts.{mark_at, ear, hears, Contents, SlotFacts, unmarked, DoneWith, Facts}
+use Rattle.rules.proofs.Laws.Facts.{mark_at, ear, hears, Contents, SlotFacts, unmarked, DoneWith, Facts}
 
 -- ---- matrices that agree
 

@@ -16,7 +16,7 @@ use Rattle.rules.specs.Messages.{tag_in, has_matrix, written}
 use Rattle.rules.specs.Record.{zero_record}
 use Rattle.rules.specs.Steps.{Step, heard}
 use Rattle.rules.specs.Answers.{Refusal, first_row, first_of, Done, done, no_pair, accepted, refused, outcome_of, answered, set_up_rows, set_up, SetsUp, call_rows, own_deal_rows, deal_rows, deal, Deals, own_recover_rows, recover_rows, recover, Recovers, form_rows, turn_rows, hearing_tests, hearing_rows, early_rows, deliver_rows, refusal_heard, deliver, Delivers, DeliversLent}
-use Rattle.rules.specs.Laws.Table.{row, none_before, none, lacks, distinct, numbers, first_row_lem, first_none, marks_by, first_marks, each, marking_by, among}
+use Rattle.rules.proofs.Laws.Table.{row, none_before, none, lacks, distinct, numbers, first_row_lem, first_none, marks_by, first_marks, each, marking_by, among}
 
 -- ---- (a) and (c): which number a call gives
 

@@ -27,11 +27,11 @@ use Rattle.rules.specs.Matrices.{row, matrix, entry, coefficient₂}
 use Rattle.rules.specs.Messages.{matrix_in}
 use Rattle.rules.specs.Dealing.{committed, commitment, along_y, along_x, polynomials_of, matrix_passes, four_below, pair_below}
 use Rattle.rules.specs.Record.{no_row, row_at, matrix_of, entries_zero}
-use Rattle.rules.specs.Laws.Numbers.{group_rule, group_sizes}
-use Rattle.rules.specs.Laws.Matrices.{row_at_lem, row-length, row_zero, matrix_height, matrix_filled, matrix_empty, entry_at}
-use Rattle.rules.specs.Laws.Checks.{entry_below, four_lows, pair_lows}
+use Rattle.rules.proofs.Laws.Numbers.{group_rule, group_sizes}
+use Rattle.rules.proofs.Laws.Matrices.{row_at_lem, row-length, row_zero, matrix_height, matrix_filled, matrix_empty, entry_at}
+use Rattle.rules.proofs.Laws.Checks.{entry_below, four_lows, pair_lows}
 use Rattle.rules.specs.Laws.Shape.{ShapedSlot}
-use Rattle.rules.specs.Laws.RoundTrip.{MatrixFits, PolynomialFits, PolynomialsFit, FourFits, PairFits, matrix-fits, polynomial_fits}
+use Rattle.rules.proofs.Laws.RoundTrip.{MatrixFits, PolynomialFits, PolynomialsFit, FourFits, PairFits, matrix-fits, polynomial_fits}
 
 -- for set-up numbers whose group keeps its rule, with k ≤ 8
 module _ (u : SetUp) (keeps : group_keeps u ≡ true) (high : u.k ≤ 8) where

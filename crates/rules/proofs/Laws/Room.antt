@@ -19,9 +19,9 @@ use Rattle.rules.specs.declared.Side.TheVariants.{ByEcho, ByReady}
 use Rattle.rules.specs.Numbers.{group_keeps}
 use Rattle.rules.specs.Record.{slot_at, heard_for, held, matrix_of, same_matrix, echo_mark, ready_mark, setup_keeps, marks_keep, places_keep, use_keeps, sound}
 use Rattle.rules.specs.Steps.{own_slot, free_slot, slot_for}
-use Rattle.rules.specs.Laws.Facts.{ear, hears}
-use Rattle.rules.specs.Laws.Clauses.{Clauses, clauses}
-use Rattle.rules.specs.Laws.Numbers.{bounds}
+use Rattle.rules.proofs.Laws.Facts.{ear, hears}
+use Rattle.rules.proofs.Laws.Clauses.{Clauses, clauses}
+use Rattle.rules.proofs.Laws.Numbers.{bounds}
 
 -- the place that a matrix finds: its own, or one that is not in use while no slot in use has the matrix
 pub record Found (x : Record) (C : List (List Element)) (s : ℕ) : Type 0 where

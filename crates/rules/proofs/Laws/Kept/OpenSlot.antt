@@ -28,8 +28,8 @@ use Rattle.rules.specs.Steps.{row_of, opened}
 use Rattle.rules.specs.Laws.Shape.{ShapedSlot}
 use Rattle.rules.specs.declared.Side.{Side}
 use Rattle.rules.specs.declared.Side.TheVariants.{ByEcho, ByReady}
-use Rattle.rules.specs.Laws.Facts.{marks_of, Needed, Contents, PairRight, SlotFacts}
-use Rattle.rules.specs.Laws.Matrices.{row-length, row_zero, matrix_height, matrix_filled, matrix_empty}
+use Rattle.rules.proofs.Laws.Facts.{marks_of, Needed, Contents, PairRight, SlotFacts}
+use Rattle.rules.proofs.Laws.Matrices.{row-length, row_zero, matrix_height, matrix_filled, matrix_empty}
 
 -- ---- a matrix that fits: 8 by 8, would pass refusal 8, and is zero from k on
 

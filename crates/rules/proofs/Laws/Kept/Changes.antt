@@ -27,9 +27,9 @@ use Rattle.rules.specs.Steps.{with_progress, with_slot, with_shares, mark, heard
 use Rattle.rules.specs.Laws.Shape.{ShapedSlot, Shaped}
 use Rattle.rules.specs.declared.Side.{Side}
 use Rattle.rules.specs.declared.Side.TheVariants.{ByEcho, ByReady}
-use Rattle.rules.specs.Laws.Facts.{marks_of, mark_at, ear, hears, Contents, PairRight, SlotFacts, DoneWith, SlotsFacts, Facts, needed}
-use Rattle.rules.specs.Laws.Sound.{agree_comm}
-use Rattle.rules.specs.Laws.Kept.TakenSlot.{mark_stays}
+use Rattle.rules.proofs.Laws.Facts.{marks_of, mark_at, ear, hears, Contents, PairRight, SlotFacts, DoneWith, SlotsFacts, Facts, needed}
+use Rattle.rules.proofs.Laws.Sound.{agree_comm}
+use Rattle.rules.proofs.Laws.Kept.TakenSlot.{mark_stays}
 
 -- a sound record, and its arrays have their lengths
 pub record Good (x : Record) : Type 0 where

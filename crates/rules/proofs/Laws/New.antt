@@ -16,10 +16,10 @@ use Rattle.rules.specs.Record.{no_row, no_slot, no_marks, slot_at, shares_kept, 
 use Rattle.rules.specs.Steps.{quiet}
 use Rattle.rules.specs.Answers.{set_up, set_up_rows, first_of, outcome_of, accepted}
 use Rattle.rules.specs.Laws.Shape.{Shaped, ShapedSlot}
-use Rattle.rules.specs.Laws.Clauses.{is_sound}
-use Rattle.rules.specs.Laws.Numbers.{bounds, quorum}
-use Rattle.rules.specs.Laws.Table.{none}
-use Rattle.rules.specs.Laws.DemandOne.{outcome_number, set_up_number}
+use Rattle.rules.proofs.Laws.Clauses.{is_sound}
+use Rattle.rules.proofs.Laws.Numbers.{bounds, quorum}
+use Rattle.rules.proofs.Laws.Table.{none}
+use Rattle.rules.proofs.Laws.DemandOne.{outcome_number, set_up_number}
 
 -- ---- the lengths
 

@@ -14,18 +14,19 @@ use Rattle.rules.specs.Messages.{Message, tag_in, pair_in, message_in}
 use Rattle.rules.specs.Record.{is_done, sound}
 use Rattle.rules.specs.Steps.{Step, heard, send_step, message_step, deal_step, recover_step}
 use Rattle.rules.specs.Answers.{first_row, first_of, accepted, refused, answered, deal_rows, deal, recover_rows, recover, exponents_keep, deliver_rows, refusal_heard, deliver, Done}
-use Rattle.rules.specs.Laws.DemandOne.{answered_either, marked_tag}
+use Rattle.rules.proofs.Laws.DemandOne.{answered_either, marked_tag}
 use Rattle.rules.specs.Laws.Shape.{Shaped}
-use Rattle.rules.specs.Laws.RoundTrip.{by_tag, is_send_lem, is_echo_lem, is_ready_lem, is_recovery_lem}
+use Rattle.rules.proofs.Laws.RoundTrip.{by_tag, is_send_lem, is_echo_lem, is_ready_lem, is_recovery_lem}
 pub mod OpenSlot
 pub mod TakenSlot
 pub mod Changes
 pub mod Checked
-use Rattle.rules.specs.Laws.Sound.{sound_facts, facts_sound}
+use Rattle.rules.proofs.Laws.Sound.{sound_facts, facts_sound}
 use OpenSlot.{matrix-fits}
 use Changes.{Good, progress-good, heard-good}
 use Checked.{point-good, recovery-good}
-use Rattle.rules.specs.Laws.Passed.{Passed, rows_passed, deal_passed, recover_passed, marked_hearing}
+use Rattle.rules.specs.Laws.Passed.{Passed}
+use Rattle.rules.proofs.Laws.Passed.{rows_passed, deal_passed, recover_passed, marked_hearing}
 
 -- ---- what a call leaves
 

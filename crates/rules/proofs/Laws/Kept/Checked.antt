@@ -16,15 +16,15 @@ use Rattle.rules.specs.declared.SetUp.{SetUp}
 use Rattle.rules.specs.Dealing.{four_below, pair_below}
 use Rattle.rules.specs.Record.{no_slot, group_in, slot_at, heard_for, marked, matrix_of, is_there, count_r, shares_kept, same_matrix, sound}
 use Rattle.rules.specs.Steps.{Said, pair_from, share_points, heard, own_slot, free_slot, slot_for, opened, taken, keeping, Step, ready_sent, with_slot, ready_due, completion_due, point_at, point_step, completing, completed, sharing, recovering, share_step}
-use Rattle.rules.specs.Laws.Room.{Found, room}
+use Rattle.rules.proofs.Laws.Room.{Found, room}
 use Rattle.rules.specs.declared.Side.{Side}
 use Rattle.rules.specs.declared.Side.TheVariants.{ByEcho, ByReady}
-use Rattle.rules.specs.Laws.Facts.{marks_of, mark_at, ear, hears, Needed, DoneWith, Facts, needed}
-use Rattle.rules.specs.Laws.Sound.{agree_comm}
-use Rattle.rules.specs.Laws.Kept.OpenSlot.{Fits, OpenFacts, open_facts, open_marks, open_same, open_new}
-use Rattle.rules.specs.Laws.Kept.TakenSlot.{taken_cases, taken_use, taken_contents, taken_shape, count_grows, right_stays, right_kept}
-use Rattle.rules.specs.Laws.Kept.Changes.{Good, heard-good, hears_own, Replaces, keeping_replaces, replaced_good, completing_good, share_good}
-use Rattle.rules.specs.Laws.Checks.{pair_from_below, recovered_below}
+use Rattle.rules.proofs.Laws.Facts.{marks_of, mark_at, ear, hears, Needed, DoneWith, Facts, needed}
+use Rattle.rules.proofs.Laws.Sound.{agree_comm}
+use Rattle.rules.proofs.Laws.Kept.OpenSlot.{Fits, OpenFacts, open_facts, open_marks, open_same, open_new}
+use Rattle.rules.proofs.Laws.Kept.TakenSlot.{taken_cases, taken_use, taken_contents, taken_shape, count_grows, right_stays, right_kept}
+use Rattle.rules.proofs.Laws.Kept.Changes.{Good, heard-good, hears_own, Replaces, keeping_replaces, replaced_good, completing_good, share_good}
+use Rattle.rules.proofs.Laws.Checks.{pair_from_below, recovered_below}
 
 -- ---- the slot of an echo or ready
 

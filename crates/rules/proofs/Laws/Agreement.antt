@@ -14,8 +14,8 @@ use Rattle.rules.specs.declared.Pair.{Pair}
 use Rattle.rules.specs.Matrices.{α, α', β, β'}
 use Rattle.rules.specs.Dealing.{in_group, matrix_passes, opens, opened_at, αEquation, βEquation, point_check, σEquation, share_check}
 use Rattle.rules.specs.Record.{same_matrix}
-use Rattle.rules.specs.Laws.Sound.{agree_comm, agree_at, agree_all}
-use Rattle.rules.specs.Laws.Checks.{matrix_passes_lem, entry_in}
+use Rattle.rules.proofs.Laws.Sound.{agree_comm, agree_at, agree_all}
+use Rattle.rules.proofs.Laws.Checks.{matrix_passes_lem, entry_in}
 
 pub agree_self : (k : ℕ) (C : List (List Element)) → same_matrix k C C ≡ true
 agree_self k C = agree_all k C C (λ j l a b. refl)

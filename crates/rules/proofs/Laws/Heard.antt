@@ -18,11 +18,13 @@ use Rattle.rules.specs.Record.{no_marks, marked, heard_for, shares_kept}
 use Rattle.rules.specs.Steps.{Step, mark, heard, send_step, ready_sent, completing, completed, ready_due, completion_due, point_at, point_step, sharing, recovering, share_step, message_step}
 use Rattle.rules.specs.Answers.{Done, accepted, answered, first_of, deliver_rows, deliver}
 use Rattle.rules.specs.Laws.Shape.{Shaped, HasMark}
-use Rattle.rules.specs.Laws.DemandOne.{Heard, to_hear, heard_test, test_heard, deliver_marks, deliver_refused, deliver_heard, outcome_number, answered_accepted}
-use Rattle.rules.specs.Laws.Facts.{needed}
-use Rattle.rules.specs.Laws.Sound.{sound_facts}
-use Rattle.rules.specs.Laws.RoundTrip.{Formed, is_send_lem, is_echo_lem, is_ready_lem, is_recovery_lem, by_tag}
-use Rattle.rules.specs.Laws.Passed.{Hearing, rows_passed, marked_hearing}
+use Rattle.rules.proofs.Laws.DemandOne.{Heard, to_hear, heard_test, test_heard, deliver_marks, deliver_refused, deliver_heard, outcome_number, answered_accepted}
+use Rattle.rules.proofs.Laws.Facts.{needed}
+use Rattle.rules.proofs.Laws.Sound.{sound_facts}
+use Rattle.rules.specs.Laws.RoundTrip.{Formed}
+use Rattle.rules.proofs.Laws.RoundTrip.{is_send_lem, is_echo_lem, is_ready_lem, is_recovery_lem, by_tag}
+use Rattle.rules.specs.Laws.Passed.{Hearing}
+use Rattle.rules.proofs.Laws.Passed.{rows_passed, marked_hearing}
 
 -- ---- one mark more
 

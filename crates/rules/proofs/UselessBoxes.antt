@@ -23,8 +23,8 @@ use Rattle.rules.specs.Record.{no_marks, marked, zero_slot, count_e, new_record,
 use Rattle.rules.specs.Answers.{Done, Delivers, deliver}
 use Rattle.rules.specs.Computed.{computed}
 use Rattle.rules.specs.Laws.Shape.{Shaped}
-use Rattle.rules.specs.Laws.New.{new_sound, new_shaped}
-use Rattle.rules.specs.Laws.Kept.{deliver_kept}
+use Rattle.rules.proofs.Laws.New.{new_sound, new_shaped}
+use Rattle.rules.proofs.Laws.Kept.{deliver_kept}
 use Rattle.rules.specs.HandSums.{class, coins, C, dealt, point}
 
 abbrev pub Station : Type 0

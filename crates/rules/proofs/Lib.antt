@@ -1,0 +1,3 @@
+-- The laws that follow from the definitions, and the theorems on useless boxes.
+pub mod Laws
+pub mod UselessBoxes
