@@ -1,9 +1,5 @@
--- The mathematics of sharing a secret: laws for any prime q and any k, on plain numbers with `%`.
--- In order: remainders and primes; powers; sums and products; polynomials; interpolation; commitments; what shares open.
+-- The mathematics of sharing a secret, on plain numbers with `%`: what contracts and document 01's definitions cite. Its laws, for any prime q and any k,
+-- stand in proofs/.
 pub mod Residues
-pub mod Powers
-pub mod Sums
 pub mod Polynomials
 pub mod Interpolation
-pub mod Commitments
-pub mod Opening

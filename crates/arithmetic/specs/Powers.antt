@@ -2,7 +2,7 @@
 use Rattle.std.specs.Prelude.{◌≡◌, ℕ, ◌+◌, ◌*◌, ◌%◌, ◌^◌}
 use Rattle.std.proofs.Common.{sym, ap, ◌∙◌, pow-suc, add-one}
 use Rattle.std.proofs.Math.Nat.{pow-zero}
-use Rattle.algebra.specs.Residues.{mod-mul-mod}
+use Rattle.algebra.proofs.Residues.{mod-mul-mod}
 
 -- x^0 and, behind x^n, x^(n + 1), each modulo q
 module _ (q x : ℕ) where

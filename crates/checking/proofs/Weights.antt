@@ -4,7 +4,7 @@ use mathlib.Core.Path.{◌≡◌, refl, sym, ap, ◌∙◌}
 use Prim.Native.Nat.{ℕ, ◌+◌, ◌*◌, ◌%◌, ◌^◌}
 use native.Mathlib.Nat.{mod-mod, mul_assoc, pow-suc}
 use native.Mathlib.Numerals.{add-one}
-use Rattle.algebra.specs.Residues.{mul_cong}
+use Rattle.algebra.proofs.Residues.{mul_cong}
 
 pub weight_more : (q x n w power : ℕ) → power % q ≡ (w * x ^ n) % q → (power * x) % q % q ≡ (w * x ^ (n + 1)) % q
 weight_more q x n w power h =

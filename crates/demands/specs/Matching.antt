@@ -17,9 +17,11 @@ use borrow.Author.Tests.{lt-ltb, le-ltb, eq-eqb}
 use Rattle.folds.specs.Tests.{pick, pick_true, pick-false, decide, and_intro}
 use Rattle.folds.specs.Below.{count_below, sum_below, prod_below, sum_below_same, all_below_all}
 use Rattle.folds.specs.Runs.{length_singles, get_or_singles}
-use Rattle.algebra.specs.Residues.{mod-mul-mod, mul-mod-mod, add_cong, mul_cong, add-zero-mod, mul-zero-mod, inverse, one_less, multiples_zero, difference_reaches, difference_back, row_of, column_of}
-use Rattle.algebra.specs.Sums.{sum-add, sum_scale, sum_first, sum_cong, sum_single, prod_none, sum_moves}
-use Rattle.algebra.specs.Polynomials.{sum_nought}
+use Rattle.algebra.proofs.Residues.{mod-mul-mod, mul-mod-mod, add_cong, mul_cong, add-zero-mod, mul-zero-mod, multiples_zero, difference_reaches, difference_back}
+use Rattle.algebra.specs.Residues.{inverse}
+use Rattle.algebra.proofs.Fields.{one_less, row_of, column_of}
+use Rattle.algebra.proofs.Sums.{sum-add, sum_scale, sum_first, sum_cong, sum_single, prod_none, sum_moves}
+use Rattle.algebra.proofs.Polynomials.{sum_nought}
 use Rattle.rules.specs.declared.Exponent.{Exponent}
 use Rattle.rules.specs.declared.SetUp.{SetUp}
 use Rattle.rules.specs.Numbers.{element, logarithm}

@@ -12,9 +12,10 @@ use native.Mathlib.Omega.{arith}
 use Rattle.std.proofs.Math.ListN.{length, get_or, get_or-map}
 use Rattle.folds.specs.Below.{sum_below, prod_below}
 use Rattle.algebra.specs.Polynomials.{Places}
-use Rattle.algebra.specs.Interpolation.{interpolate, interpolate_cong, interpolate-sum}
-use Rattle.algebra.specs.Commitments.{commit_member, commit_vector_mod}
-use Rattle.algebra.specs.Opening
+use Rattle.algebra.specs.Interpolation.{interpolate}
+use Rattle.algebra.proofs.Interpolation.{interpolate_cong, interpolate-sum}
+use Rattle.algebra.proofs.Commitments.{commit_member, commit_vector_mod}
+use Rattle.algebra.proofs.Opening
 use Rattle.rules.specs.declared.Element.{Element}
 use Rattle.rules.specs.declared.Exponent.{Exponent}
 use Rattle.rules.specs.declared.Four.{Four}

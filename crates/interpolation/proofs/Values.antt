@@ -7,9 +7,10 @@ use native.Mathlib.Omega.{arith}
 use lib.ListN.{get_or}
 use Rattle.folds.specs.Runs.{gather, length_singles, get_or_singles}
 use Rattle.folds.specs.Stores.{map_at}
-use Rattle.algebra.specs.Residues.{mod-mul-mod}
-use Rattle.algebra.specs.Sums.{sum_cong}
-use Rattle.algebra.specs.Interpolation.{weight, interpolate, interpolate_cong}
+use Rattle.algebra.proofs.Residues.{mod-mul-mod}
+use Rattle.algebra.proofs.Sums.{sum_cong}
+use Rattle.algebra.specs.Interpolation.{weight, interpolate}
+use Rattle.algebra.proofs.Interpolation.{interpolate_cong}
 use Rattle.rules.specs.declared.Exponent.{Exponent}
 use Rattle.rules.specs.declared.Pair.{Pair}
 use Rattle.rules.specs.Matrices.{coefficient}

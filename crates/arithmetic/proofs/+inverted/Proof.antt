@@ -6,7 +6,7 @@ use native.Mathlib.Omega.{arith}
 use borrow.Author.Rules.{rules}
 use borrow.Fn.Kinds.{In}
 use borrow.Fn.PlainCycle.{Measures, is, falls, and}
-use Rattle.algebra.specs.Residues.{inverse_small, inverse_step}
+use Rattle.algebra.proofs.Fields.{inverse_small, inverse_step}
 use Rattle.rules.specs.Numbers.{exponent}
 use Rattle.arithmetic.proofs.inverted.Reads as inverted
 use Rattle.arithmetic.proofs.inverted.Kinds as inverted-kinds

@@ -1,7 +1,7 @@
 -- `commit` is g^x h^y modulo p. Assumes nothing.
 use borrow.Author.Rules.{rules}
 use Rattle.folds.specs.Found.{found3}
-use Rattle.algebra.specs.Residues.{mods}
+use Rattle.algebra.proofs.Residues.{mods}
 use Rattle.rules.specs.Dealing.{committed}
 use Rattle.arithmetic.proofs.commit.Statement.{statement}
 use Rattle.arithmetic.proofs.commit.Tie as tie

@@ -7,8 +7,8 @@ use native.Mathlib.Nat.{mod-lt, mod-eq_of_lt, mul_assoc, mul-one, one-mul, pow-z
 use native.Mathlib.Omega.{arith}
 use lib.Pow.{pow-add}
 use borrow.Author.Rules.{rules}
-use Rattle.algebra.specs.Residues.{mul_cong, mod-mul-mod}
-use Rattle.algebra.specs.Powers.{mul-pow, pow-mod}
+use Rattle.algebra.proofs.Residues.{mul_cong, mod-mul-mod}
+use Rattle.algebra.proofs.Powers.{mul-pow, pow-mod}
 use Rattle.rules.specs.Numbers.{element}
 use Rattle.arithmetic.proofs.power.Statement.{statement}
 use Rattle.arithmetic.proofs.power.Tie as tie

@@ -9,9 +9,9 @@ use lib.ListN.{get_or}
 use borrow.Author.Rules.{rules}
 use Rattle.folds.specs.Found.{found4}
 use Rattle.folds.specs.Below.{prod_below, prod_below-zero}
-use Rattle.algebra.specs.Residues.{mul_cong}
-use Rattle.algebra.specs.Sums.{prod_mod_more_mod}
-use Rattle.algebra.specs.Commitments.{prod_same}
+use Rattle.algebra.proofs.Residues.{mul_cong}
+use Rattle.algebra.proofs.Sums.{prod_mod_more_mod}
+use Rattle.algebra.proofs.Commitments.{prod_same}
 use Rattle.rules.specs.declared.Element.{Element}
 use Rattle.rules.specs.declared.Group.{Group}
 use Rattle.rules.specs.Numbers.{element}

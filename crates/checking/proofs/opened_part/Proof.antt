@@ -7,8 +7,8 @@ use native.Mathlib.Omega.{arith}
 use borrow.Author.Rules.{rules}
 use Rattle.folds.specs.Found.{found7}
 use Rattle.folds.specs.Below.{prod_below, prod_below-zero}
-use Rattle.algebra.specs.Powers.{pow-same}
-use Rattle.algebra.specs.Sums.{prod_mod_more_mod}
+use Rattle.algebra.proofs.Powers.{pow-same}
+use Rattle.algebra.proofs.Sums.{prod_mod_more_mod}
 use Rattle.rules.specs.Numbers.{element}
 use Rattle.checking.specs.Equations.{element_at, along_part}
 use Rattle.checking.proofs.Weights.{weight_more}

@@ -6,8 +6,8 @@ use native.Mathlib.Omega.{arith}
 use borrow.Author.Rules.{rules}
 use Rattle.folds.specs.Found.{found7}
 use Rattle.folds.specs.Below.{sum_below, sum_below-zero}
-use Rattle.algebra.specs.Residues.{mul-mod-mod}
-use Rattle.algebra.specs.Sums.{sum-mod_more_mod}
+use Rattle.algebra.proofs.Residues.{mul-mod-mod}
+use Rattle.algebra.proofs.Sums.{sum-mod_more_mod}
 use Rattle.rules.specs.Numbers.{exponent}
 use Rattle.rules.specs.Matrices.{coefficient}
 use Rattle.rules.specs.Dealing.{value_at}

@@ -11,8 +11,9 @@ use native.Mathlib.Omega.{arith}
 use Rattle.std.proofs.Math.ListN.{length, get_or, get_or-map}
 use Rattle.std.proofs.lemmas.List.{length-map}
 use Rattle.folds.specs.Stores.{map_at}
-use Rattle.algebra.specs.Sums.{sum_moves}
-use Rattle.algebra.specs.Interpolation.{interpolate, interpolate_cong, interpolate_moves}
+use Rattle.algebra.proofs.Sums.{sum_moves}
+use Rattle.algebra.specs.Interpolation.{interpolate}
+use Rattle.algebra.proofs.Interpolation.{interpolate_cong, interpolate_moves}
 use Rattle.rules.specs.declared.Exponent.{Exponent}
 use Rattle.rules.specs.declared.Four.{Four}
 use Rattle.rules.specs.declared.Pair.{Pair}

@@ -11,7 +11,7 @@ use borrow.Author.Tests.{eq-eqb, ne_eqb}
 use Rattle.folds.specs.Found.{found3}
 use Rattle.folds.specs.Tests.{pick}
 use Rattle.folds.specs.Below.{prod_below, prod_below-zero, prod_below_more}
-use Rattle.algebra.specs.Sums.{prod_mod_more_mod}
+use Rattle.algebra.proofs.Sums.{prod_mod_more_mod}
 use Rattle.algebra.specs.Interpolation.{others}
 use Rattle.rules.specs.Numbers.{exponent}
 use Rattle.interpolation.specs.Points.{box_at}

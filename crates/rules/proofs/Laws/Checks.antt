@@ -14,8 +14,8 @@ use Rattle.std.proofs.Math.Dec.{ltb}
 use borrow.Author.Tests.{ltb-true, eqb-true, lt-ltb, eq-eqb, ne_eqb}
 use Rattle.folds.specs.Tests.{and_left, and_right, and_intro}
 use Rattle.folds.specs.Below.{all_below, prod_below, all_below_at, all_below_all}
-use Rattle.algebra.specs.Commitments.{prod_rows, prod_columns, prod_member}
-use Rattle.algebra.specs.Interpolation.{interpolate_below}
+use Rattle.algebra.proofs.Commitments.{prod_rows, prod_columns, prod_member}
+use Rattle.algebra.proofs.Interpolation.{interpolate_below}
 use Rattle.rules.specs.declared.Element.{Element}
 use Rattle.rules.specs.declared.Exponent.{Exponent}
 use Rattle.rules.specs.declared.Four.{Four}

@@ -11,10 +11,10 @@ use Rattle.std.proofs.Math.Dec.{ltb}
 use borrow.Author.Tests.{ltb-true, eqb-true}
 use Rattle.folds.specs.Tests.{and_left, and_right}
 use Rattle.folds.specs.Below.{sum_below, all_below_at}
-use Rattle.algebra.specs.Residues.{mod-mul-mod}
-use Rattle.algebra.specs.Sums.{sum_cong}
-use Rattle.algebra.specs.Polynomials.{sum_nought}
-use Rattle.algebra.specs.Commitments.{sum_rows, sum_columns}
+use Rattle.algebra.proofs.Residues.{mod-mul-mod}
+use Rattle.algebra.proofs.Sums.{sum_cong}
+use Rattle.algebra.proofs.Polynomials.{sum_nought}
+use Rattle.algebra.proofs.Commitments.{sum_rows, sum_columns}
 use Rattle.rules.specs.declared.Exponent.{Exponent}
 use Rattle.rules.specs.declared.SetUp.{SetUp}
 use Rattle.rules.specs.Numbers.{exponent, group_of}

@@ -9,9 +9,9 @@ use Rattle.std.proofs.Math.Nat.{zero-add, mod-mod, mod-le, pow-zero}
 use Rattle.std.proofs.Math.Decide.{ℕ_discrete}
 use Rattle.std.proofs.Math.Dec.{eqb}
 use Rattle.folds.specs.Below.{first_from_le}
-use Rattle.algebra.specs.Residues.{add_cong, mul-mod-mod, add-zero-mod, mul-zero-mod}
-use Rattle.algebra.specs.Powers.{pow-same}
-use Rattle.algebra.specs.Commitments.{commit_base}
+use Rattle.algebra.proofs.Residues.{add_cong, mul-mod-mod, add-zero-mod, mul-zero-mod}
+use Rattle.algebra.proofs.Powers.{pow-same}
+use Rattle.algebra.proofs.Commitments.{commit_base}
 use Rattle.rules.specs.declared.Group.{Group}
 use Rattle.rules.specs.Numbers.{logarithm}
 use Rattle.rules.specs.Dealing.{committed}

@@ -11,7 +11,7 @@ use Prim.Native.Nat.{ℕ, ◌+◌, ◌<◌, ◌≤◌}
 use Rattle.std.proofs.lemmas.Bool.{not-true, not-false}
 use Rattle.folds.specs.Tests.{◌and◌, ◌or◌, same, implies, pick, pick_true, pick-false, and_left, and_right, or_cases, same_eq, implies_at, decide, not_true_and_false}
 use Rattle.folds.specs.Below.{all_below, any_below, count_below, sum_below, all_below_at, any_below_here, any_below_some, count_below_none, count_below-sum, first_from_passes, first_from_before, sum_below_same}
-use Rattle.algebra.specs.Sums.{sum-add, sum_swap, sum_le, sum_lt, sum-at, sum-constant}
+use Rattle.algebra.proofs.Sums.{sum-add, sum_swap, sum_le, sum_lt, sum-at, sum-constant}
 use Rattle.rules.specs.declared.Element.{Element}
 use Rattle.rules.specs.declared.Record.{Record}
 use Rattle.rules.specs.declared.Side.{Side}

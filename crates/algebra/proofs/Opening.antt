@@ -9,11 +9,12 @@ use Rattle.std.proofs.Common.{ap₂, ◌∙◌, mul_comm, mul-one, mul-zero, pow
 use Rattle.std.proofs.Math.Nat.{mod-mod, pow-zero}
 use Rattle.folds.specs.Below.{sum_below, prod_below, sum_below_same, prod_below_same}
 use Rattle.algebra.specs.Residues.{Prime}
-use Rattle.algebra.specs.Powers.{pow-mul, pow-one, order_exact}
-use Rattle.algebra.specs.Sums.{prod_one, prod_pow, prod_swap, prod_first, pow-sum}
+use Rattle.algebra.proofs.Powers.{pow-mul, pow-one, order_exact}
+use Rattle.algebra.proofs.Sums.{prod_one, prod_pow, prod_swap, prod_first, pow-sum}
 use Rattle.algebra.specs.Polynomials.{Places}
-use Rattle.algebra.specs.Interpolation.{interpolate, weight, interpolate_power}
-use Rattle.algebra.specs.Commitments.{prod_same, commit_vector, commit_same, commit_base}
+use Rattle.algebra.specs.Interpolation.{interpolate, weight}
+use Rattle.algebra.proofs.Interpolation.{interpolate_power}
+use Rattle.algebra.proofs.Commitments.{prod_same, commit_vector, commit_same, commit_base}
 
 -- products over j, each to a power w i and multiplied: the exponents of each c j add up
 collect : (k n : ℕ) (w c : ℕ → ℕ) (e : ℕ → ℕ → ℕ)

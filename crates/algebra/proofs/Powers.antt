@@ -8,7 +8,9 @@ use Rattle.std.specs.Prelude.{◌≡◌, refl, ◌≢◌, ℕ, zero, suc, ◌+�
 use Rattle.std.proofs.Common.{sym, ap, ◌∙◌, mod-eq_of_lt, one-mul, mul-one, mul_comm, mul-suc, mul-zero, pow-suc, arith, pow-add}
 use Rattle.std.proofs.Math.Nat.{mod-mod, mul-mul-mul_comm, pow-zero, div-add-mod}
 use Rattle.std.proofs.Math.Decide.{ℕ_discrete}
-use Rattle.algebra.specs.Residues.{mul_cong, one-mul-mod, difference-zero, Prime, inverse, inverse-mod}
+use Rattle.algebra.proofs.Residues.{mul_cong, one-mul-mod, difference-zero}
+use Rattle.algebra.specs.Residues.{Prime, inverse}
+use Rattle.algebra.proofs.Fields.{inverse-mod}
 
 -- ---- plain powers
 

@@ -11,8 +11,10 @@ use Rattle.std.proofs.Common.{sym, ◌∙◌, inl, inr, ⊎_elim, mul_comm, mul_
 use Prim.Native.Nat.{ℕ, zero, suc, ◌+◌, ◌*◌, ◌%◌, ◌^◌, ◌≤◌, ◌<◌}
 use Rattle.std.proofs.Math.Nat.{mul-mul-mul_comm, pow-zero, mod-mod, mod-add-mod, add-mod-mod, zero-mod}
 use Rattle.folds.specs.Below.{sum_below, prod_below, sum_below_more, prod_below_more}
-use Rattle.algebra.specs.Residues.{mod-mul-mod, mul-mod-mod, add_cong, mul_cong, zero-add-mod, add-zero-mod, zero-mul-mod, mul-zero-mod, Prime, no_zero_divisor}
-use Rattle.algebra.specs.Powers.{mul-pow, one-pow}
+use Rattle.algebra.proofs.Residues.{mod-mul-mod, mul-mod-mod, add_cong, mul_cong, zero-add-mod, add-zero-mod, zero-mul-mod, mul-zero-mod}
+use Rattle.algebra.specs.Residues.{Prime}
+use Rattle.algebra.proofs.Fields.{no_zero_divisor}
+use Rattle.algebra.proofs.Powers.{mul-pow, one-pow}
 
 -- ---- sums
 

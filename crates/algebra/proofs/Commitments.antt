@@ -9,9 +9,9 @@ use Rattle.std.specs.Prelude.{◌≡◌, refl, ℕ, ◌*◌, ◌%◌, ◌^◌, �
 use Rattle.std.proofs.Common.{sym, ap, ap₂, ◌∙◌, mod-eq_of_lt, mul_comm, arith, pow-add}
 use Rattle.std.proofs.Math.Nat.{mod-mod}
 use Rattle.folds.specs.Below.{sum_below, prod_below, sum_below_same, prod_below_same}
-use Rattle.algebra.specs.Residues.{mul_cong}
-use Rattle.algebra.specs.Powers.{mul-pow, pow-mul, pow_cong, pow-same, member_mod, member_mul, member_pow}
-use Rattle.algebra.specs.Sums.{sum_scale, sum_swap, prod_one, prod_mul, prod_pow, prod_swap, pow-sum, prod_cong}
+use Rattle.algebra.proofs.Residues.{mul_cong}
+use Rattle.algebra.proofs.Powers.{mul-pow, pow-mul, pow_cong, pow-same, member_mod, member_mul, member_pow}
+use Rattle.algebra.proofs.Sums.{sum_scale, sum_swap, prod_one, prod_mul, prod_pow, prod_swap, pow-sum, prod_cong}
 
 -- ---- matrices
 
