@@ -16,7 +16,7 @@ within c =
     let start = c.before.before.before.before.before.before in
     ((sound_facts start.args.t1 start.requires).progress-1.completion _ c.before.completion-1.given.1).within
 
--- and its matrix sym refusal ∙ 8
+-- and its matrix passed refusal 8
 share-check-requires : tie.Need-share_check-requires
 unfolding matrix_of
 share-check-requires c κs =
@@ -25,7 +25,7 @@ share-check-requires c κs =
     let x = start.args.t1 in
     let facts = sound_facts x start.requires in
     let completed = facts.progress-1.completion _ known.completion-1.given.1 in
-    let group = known.before.before.before.Group-of.ensures in
+    let group = known.before.before.before.group_of-group.ensures in
     let r = sound_ranges x start.requires in
     let g = group_ranges r group in
     record {
@@ -47,7 +47,7 @@ returns c =
     let grouped = known.before.before.before in
     let a = grouped.before.before.args in
     let told = ap (λ d. share_checks a.t1 d a.number a.pair) known.completion-1.given.1 in
-    rw (told, ← grouped.Group-of.ensures, ← c.before.before.matrix_of-c.ensures) c.share_check.ensures
+    rw (told, ← grouped.group_of-group.ensures, ← c.before.before.matrix_of-c.ensures) c.share_check.ensures
 
 pub share_passes_spec : {M : Type 1} → statement M
 share_passes_spec =
