@@ -7,13 +7,8 @@ use Rattle.rules.specs.Matrices.{to_boxes}
 use Rattle.rules.specs.Messages.{send}
 use Rattle.rules.specs.Dealing.{f_of, f'_of, commitment, polynomials_of}
 use Rattle.rules.specs.Record.{group_in}
-<<<<<<< HEAD
-use Rattle.rules.specs.Steps.{deal_step, sending}
-use Rattle.rules.proofs.Laws.Matrices.{square_small}
-=======
 use Rattle.rules.specs.Steps.{deal_step}
 use Rattle.rules.proofs.Laws.Matrices.{square_small}
->>>>>>> a7a7c2c41a5addc9220a848d234eb4c0fcf63ebf
 use Rattle.rules.specs.Laws.Numbers.{Ranges}
 use Rattle.rules.proofs.Laws.Sound.{sound_ranges}
 use Rattle.record_writing.specs.Anew.{dealt_after}
