@@ -34,7 +34,7 @@ loop-again c =
     let a = start.args in
     rw (c.before.times-made.ensures, c.before.before.power-factor.ensures, c.product-power.ensures) (
       omega arith,
-      factor-more _ _ (element_at a.t3) (λ n. a.w.0 * a.x ^ n) _ _ (start.requires.members _ turn.loop-l-test.true) inv.1 inv.2,
+      factor-more _ _ (element_at a.c) (λ n. a.w.0 * a.x ^ n) _ _ (start.requires.members _ turn.loop-l-test.true) inv.1 inv.2,
       weight_more _ _ _ _ _ inv.2,
     )
 

@@ -39,10 +39,10 @@ loop-again c =
     filling_more turn.before.loop-n.invariant turn.loop-n-test.true
     (c.value_at-x.ensures
     ∙ ⊎_elim
-    (λ w. rw (w.2, w.1.ensures, w.0.true)
-    (ap exponent (column-value a.q a.k a.t3 turn.before.loop-n.n a.i start.requires.1)))
-    (λ w. rw (w.1, w.0.false))
-    c.before.if-across.branch)
+    (λ w. rw (w.line-is, w.column-line.ensures, w.if-across.true)
+    (ap exponent (column-value a.q a.k a.f turn.before.loop-n.n a.i start.requires.1)))
+    (λ w. rw (w.line-is, w.if-across.false))
+    c.before.if-across.branch-raw)
 
 pub along_spec : {M : Type 1} → statement M
 unfolding row

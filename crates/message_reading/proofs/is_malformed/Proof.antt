@@ -26,7 +26,7 @@ start c = c.before.before.before.before.before.before.before.before.before
 passed : (c : tie.Else-n-whole_length) → let s = (start c).args.s.now in
     malformed (start c).args.u s ≡ (has_matrix (tag_in s) and not (eqb (get_or s 6 0) (start c).args.u.k))
 unfolding malformed
-sym c ∙ =
+passed c =
     let sized = c.before.before in
     let tagged = sized.before.before in
     rw (
@@ -58,8 +58,8 @@ is_malformed_spec =
     (λ c. simp (← c.before.number.ensures, ne_eqb _ _ c.if-number-n.true, or-any))
     (λ c κs. search rules)
     (λ c. simp (← c.before.whole_length.ensures, ne_eqb _ _ c.if-n-whole_length.true, or-any))
-    (λ c. sym (sym c.before ∙ ∙ (rw (lt-leb _ 3 c.if-tag-gt3.true))))
+    (λ c. sym (passed c.before ∙ (rw (lt-leb _ 3 c.if-tag-gt3.true))))
     shared-slice-read-wide
     (λ c κs. search rules)
     (λ c. search rules)
-    (λ c. sym (sym c.before.before.before.before ∙ ∙ (rw (le-leb _ 3 c.before.before.before.if-tag-gt3.false, ← c.before.wide.ensures)))))
+    (λ c. sym (passed c.before.before.before.before ∙ (rw (le-leb _ 3 c.before.before.before.if-tag-gt3.false, ← c.before.wide.ensures)))))

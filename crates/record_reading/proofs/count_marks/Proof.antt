@@ -17,13 +17,13 @@ abbrev decreases-loop-m : tie.decreases-loop-m
 decreases-loop-m marks n₀ m₀ n m = 10 - m
 
 add-n : tie.Need-overflow_add-n invariant-loop-m decreases-loop-m
-add-n c = let head = c.before.before.before in omega (arith, count_below_le (marked head.before.args.t1) head.loop-m.m)
+add-n c = let head = c.before.before.before in omega (arith, count_below_le (marked head.before.args.marks) head.loop-m.m)
 
 loop-again : tie.Need-loop-m-preserved invariant-loop-m decreases-loop-m
 loop-again c =
     let turn = c.before.before in
     let next = counted_more _ 10 _ turn.loop-m-test.true turn.before.loop-m.invariant in
-    ⊎_elim (λ w. next.0 w.0.true w.1) (λ w. next.1 w.0.false w.1) c.if-marks-m.branch
+    ⊎_elim (λ w. next.0 w.if-marks-m.true w.n-is) (λ w. next.1 w.if-marks-m.false w.n-is) c.if-marks-m.branch-raw
 
 returns : tie.Need-returns invariant-loop-m decreases-loop-m
 unfolding count_marks

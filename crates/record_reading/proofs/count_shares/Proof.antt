@@ -25,14 +25,14 @@ abbrev decreases-loop-m : tie.decreases-loop-m
 decreases-loop-m shares n₀ m₀ n m = 10 - m
 
 add-n : tie.Need-overflow_add-n invariant-loop-m decreases-loop-m
-add-n c = let head = c.before.before.before.before in omega (arith, count_below_le (there head.before.args.t1) head.loop-m.m)
+add-n c = let head = c.before.before.before.before in omega (arith, count_below_le (there head.before.args.shares) head.loop-m.m)
 
 loop-again : tie.Need-loop-m-preserved invariant-loop-m decreases-loop-m
 loop-again c =
     let turn = c.before.before.before in
     let next = counted_more _ 10 _ turn.loop-m-test.true turn.before.loop-m.invariant in
     let test = sym c.before.is_there.ensures in
-    ⊎_elim (λ w. next.0 (test ∙ w.0.true) w.1) (λ w. next.1 (test ∙ w.0.false) w.1) c.if-is_there.branch
+    ⊎_elim (λ w. next.0 (test ∙ w.if-is_there.true) w.n-is) (λ w. next.1 (test ∙ w.if-is_there.false) w.n-is) c.if-is_there.branch-raw
 
 returns : tie.Need-returns invariant-loop-m decreases-loop-m
 unfolding shares_kept

@@ -17,7 +17,7 @@ decreases-loop-j rows c₀ j₀ c j = 8 - j
 
 returns : tie.Need-returns invariant-loop-j decreases-loop-j
 returns c =
-    let rows = c.before.before.args.t1 in
+    let rows = c.before.before.args.rows in
     let len : length rows ≡ 8 = search rules in
     filling_map row_at rows no_row c.before.loop-j.invariant c.loop-j-test.false refl len
 
