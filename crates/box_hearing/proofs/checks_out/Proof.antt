@@ -29,11 +29,11 @@ read-matrix-requires c κs =
 
 -- the matrix that was read has passed
 checkable : (c : tie.After-read_matrix-c)
-    → Checkable c.before.Group-of.result (start c.before).args.x.setup.k c.read_matrix-c.result
+    → Checkable c.before.group_of-group.result (start c.before).args.x.setup.k c.read_matrix-c.result
 checkable c =
     let s = start c.before in
     let r = sound_ranges _ s.requires.hearing.is_sound in
-    let g = group_ranges r c.before.Group-of.ensures in
+    let g = group_ranges r c.before.group_of-group.ensures in
     let no_share = c.before.before.before.before.if-tag-eq4.false in
     let form = s.requires.hearing.form in
     record {
@@ -41,7 +41,7 @@ checkable c =
       order = g.some;
       high = r.high;
       passes =
-          ap₂ (λ G C. matrix_passes G s.args.x.setup.k C) c.before.Group-of.ensures c.read_matrix-c.ensures
+          ap₂ (λ G C. matrix_passes G s.args.x.setup.k C) c.before.group_of-group.ensures c.read_matrix-c.ensures
           ∙ s.requires.passes (omega (arith, form.high, no_share));
     }
 
@@ -54,7 +54,7 @@ send c =
     let read = tested.before in
     let a = (begun read).args in
     let u = a.x.setup in
-    polynomial_tested u.k u.i read.before.Group-of.ensures read.read_matrix-c.ensures
+    polynomial_tested u.k u.i read.before.group_of-group.ensures read.read_matrix-c.ensures
     c.before.before.read_polynomials-all.ensures c.polynomial_check.ensures
     ∙ sym (ap (checks a.x a.sender) (is_send_lem u a.bytes.now tested.if-tag-eq1.true))
 
@@ -65,7 +65,7 @@ point c =
     let s = begun read in
     let a = s.args in
     let u = a.x.setup in
-    point_tested u.k u.i read.before.Group-of.ensures read.read_matrix-c.ensures a.sender
+    point_tested u.k u.i read.before.group_of-group.ensures read.read_matrix-c.ensures a.sender
     c.before.before.read_four-four.ensures c.point_check.ensures
     ∙ sym (point_checks a.x a.sender s.requires.hearing.form tested.if-tag-eq1.false read.before.before.before.before.if-tag-eq4.false)
 

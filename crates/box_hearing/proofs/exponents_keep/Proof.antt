@@ -15,7 +15,7 @@ send c =
     let tested = read.before in
     let a = tested.before.before.before.before.args in
     c.polynomials_below.ensures
-    ∙ ap₂ (λ (G : Group) P. polynomials_below G.q a.u.k P) tested.before.before.Group-of.ensures read.read_polynomials-all.ensures
+    ∙ ap₂ (λ (G : Group) P. polynomials_below G.q a.u.k P) tested.before.before.group_of-group.ensures read.read_polynomials-all.ensures
     ∙ sym (ap (exponents_keep a.u) (is_send_lem a.u a.bytes.now tested.if-tag-eq1.true))
 
 share : tie.Need-returns-then-tag-eq4
@@ -25,7 +25,7 @@ share c =
     let grouped = tested.before.before.before in
     let a = grouped.before.before.args in
     c.pair_below.ensures
-    ∙ ap₂ (λ (G : Group) s. pair_below G.q s) grouped.Group-of.ensures read.read_pair-pair.ensures
+    ∙ ap₂ (λ (G : Group) s. pair_below G.q s) grouped.group_of-group.ensures read.read_pair-pair.ensures
     ∙ sym (ap (exponents_keep a.u) (is_recovery_lem a.u a.bytes.now tested.if-tag-eq4.true))
 
 point : tie.Need-returns
@@ -34,8 +34,8 @@ point c =
     let tested = read.before in
     let grouped = tested.before.before.before in
     let start = grouped.before.before in
-    c.four_below_lem.ensures
-    ∙ ap₂ (λ (G : Group) f. four_below G.q f) grouped.Group-of.ensures read.read_four-four.ensures
+    c.four_below.ensures
+    ∙ ap₂ (λ (G : Group) f. four_below G.q f) grouped.group_of-group.ensures read.read_four-four.ensures
     ∙ sym (point_keeps start.requires.form tested.before.if-tag-eq1.false tested.if-tag-eq4.false)
 
 pub exponents_keep_spec : {M : Type 1} → statement M

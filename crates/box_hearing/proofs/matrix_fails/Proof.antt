@@ -23,7 +23,7 @@ read-matrix-requires c κs =
 matrix-passes-requires : tie.Need-matrix_passes-requires
 matrix-passes-requires c κs =
     let pre = c.before.before.before.before.before.before.requires in
-    ((group_ranges pre.ranges c.before.before.Group-of.ensures).modulus, pre.ranges.high)
+    ((group_ranges pre.ranges c.before.before.group_of-group.ensures).modulus, pre.ranges.high)
 
 returns : tie.Need-returns
 unfolding matrix_fails has_matrix
@@ -32,7 +32,7 @@ returns c =
     let a = c.before.before.before.before.before.before.before.args in
     rw (le-leb _ 3 read.before.before.if-bytes-gt3.false)
     (ap not (c.matrix_passes.ensures
-    ∙ ap₂ (λ G C. matrix_passes G a.u.k C) read.before.Group-of.ensures read.read_matrix-c.ensures))
+    ∙ ap₂ (λ G C. matrix_passes G a.u.k C) read.before.group_of-group.ensures read.read_matrix-c.ensures))
 
 pub matrix_fails_spec : {M : Type 1} → statement M
 matrix_fails_spec =

@@ -1,5 +1,4 @@
 -- `share_passes` is the share check against the completed matrix. Assumes nothing.
-use Rattle.std.proofs.Common.{◌∙◌}
 use mathlib.Core.Path.{sym, ap}
 use lib.Dec.{lit<}
 use borrow.Author.Rules.{rules, scaled_Fits}
@@ -12,48 +11,42 @@ use Rattle.box_hearing.proofs.share_passes.Tie as tie
 
 -- the completed slot is one of the twenty
 within : tie.Need-bounds-x-s
-within c =
-    let start = c.before.before.before.before.before.before in
-    ((sound_facts start.args.t1 start.requires).progress-1.completion _ c.before.completion-1.given.1).within
+within c = ((sound_facts c.args.x c.requires).progress.completion _ c.in-With.is).within
 
--- and its matrix sym refusal ∙ 8
+-- and its matrix passed refusal 8
 share-check-requires : tie.Need-share_check-requires
 unfolding matrix_of
 share-check-requires c κs =
-    let known = c.before.before.before.before.before in
-    let start = known.before.before.before.before.before in
-    let x = start.args.t1 in
-    let facts = sound_facts x start.requires in
-    let completed = facts.progress-1.completion _ known.completion-1.given.1 in
-    let group = known.before.before.before.Group-of.ensures in
-    let r = sound_ranges x start.requires in
+    let x = c.args.x in
+    let facts = sound_facts x c.requires in
+    let completed = facts.progress.completion _ c.in-With.is in
+    let group = c.group_of-group.ensures in
+    let r = sound_ranges x c.requires in
     let g = group_ranges r group in
     record {
       modulus = g.modulus;
       order = g.some;
       high = r.high;
-      passes = rw (group, c.before.matrix_of-c.ensures) ((facts.slots.each _ completed.within).contents.passes completed.used);
+      passes = rw (group, c.matrix_of-c.ensures) ((facts.slots.each _ completed.within).contents.passes completed.used);
     }
 
 not_yet : tie.Need-returns-in-NotYet
 not_yet c =
-    let a = c.before.before.before.before.before.args in
-    ap (λ d. share_checks a.t1 d a.number a.pair) (sym c.enum_told-1.given.1)
+    let a = c.args in
+    ap (λ d. share_checks a.x d a.number a.pair) (sym c.in-NotYet.is)
 
 returns : tie.Need-returns-in-With
 unfolding matrix_of
 returns c =
-    let known = c.before.before.before.before.before.before in
-    let grouped = known.before.before.before in
-    let a = grouped.before.before.args in
-    let told = ap (λ d. share_checks a.t1 d a.number a.pair) known.completion-1.given.1 in
-    rw (told, ← grouped.Group-of.ensures, ← c.before.before.matrix_of-c.ensures) c.share_check.ensures
+    let a = c.args in
+    let told = ap (λ d. share_checks a.x d a.number a.pair) c.in-With.is in
+    rw (told, ← c.group_of-group.ensures, ← c.matrix_of-c.ensures) c.share_check.ensures
 
 pub share_passes_spec : {M : Type 1} → statement M
 share_passes_spec =
     tie.close
     (tie.spec
-    (λ c κs. (sound_ranges _ c.before.requires).group)
+    (λ c κs. (sound_ranges _ c.requires).group)
     (λ c. search rules)
     (λ c. search rules)
     (λ c. scaled_Fits _ 20 256 (within c) (lit< tt))

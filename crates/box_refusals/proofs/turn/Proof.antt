@@ -19,7 +19,7 @@ abbrev start1 : tie.Joined-else-tag-eq1 → tie.Start
 start1 c = c.before.before.before.before
 
 left-4 : (c : tie.Joined-else-tag-eq1) → let a = (start1 c).args in eqb (tag_in a.bytes.now) 1 and not (eqb a.sender a.x.setup.d) ≡ false
-left-4 c = ⊎_elim (λ w. rw (eq-eqb _ _ w.0.true, w.2.false)) (λ w. rw (ne_eqb _ _ w.false)) c.if-tag-eq1.branch
+left-4 c = ⊎_elim (λ w. rw (eq-eqb _ _ w.if-tag-eq1.true, eq-eqb _ _ w.if-sender-u.false)) (λ w. rw (ne_eqb _ _ w.if-tag-eq1.false)) c.else-tag-eq1.branch-raw
 
 abbrev start3 : tie.Joined-is_done → tie.Start
 start3 c = start1 c.before.before.before
@@ -28,7 +28,7 @@ start3 c = start1 c.before.before.before
 recovering : (c : tie.Joined-is_done) → let p = (start3 c).args.x.progress in c.if-is_done.recovering ≡ is_done p.completion and p.commanded
 recovering c =
     let ended = c.before.is_done.ensures in
-    ⊎_elim (λ w. rw (sym ended ∙ w.0.true) w.1) (λ w. rw (sym ended ∙ w.0.false) (w.1 ∙ w.0.false)) c.if-is_done.branch
+    ⊎_elim (λ w. rw (sym ended ∙ w.if-is_done.true) w.recovering-is) (λ w. rw (sym ended ∙ w.if-is_done.false) (w.recovering-is ∙ w.if-is_done.false)) c.if-is_done.branch-raw
 
 abbrev start4 : tie.Joined-else-tag-eq4 → tie.Start
 start4 c = start3 c.before
@@ -37,19 +37,19 @@ left-5 : (c : tie.Joined-else-tag-eq4)
     → let a = (start4 c).args in
     eqb (tag_in a.bytes.now) 4 and not (is_done a.x.progress.completion and a.x.progress.commanded) ≡ false
 left-5 c =
-    ⊎_elim (λ w. rw (eq-eqb _ _ w.0.true, sym (recovering c.before) ∙ w.1.false)) (λ w. rw (ne_eqb _ _ w.false))
-    c.if-tag-eq4.branch
+    ⊎_elim (λ w. rw (eq-eqb _ _ w.if-tag-eq4.true, sym (recovering c.before) ∙ w.if-not-recovering.false)) (λ w. rw (ne_eqb _ _ w.if-tag-eq4.false))
+    c.else-tag-eq4.branch-raw
 
 abbrev start6 : tie.Joined-else-tag-eq4-2 → tie.Start
 start6 c = start4 c.before.before
 
 left-6 : (c : tie.Joined-else-tag-eq4-2) → let a = (start6 c).args in eqb (tag_in a.bytes.now) 4 and is_there a.x.recovered.kept ≡ false
 left-6 c =
-    ⊎_elim (λ w. rw (eq-eqb _ _ w.0.true, sym w.1.ensures ∙ w.2.false)) (λ w. rw (ne_eqb _ _ w.false)) c.if-tag-eq4-2.branch
+    ⊎_elim (λ w. rw (eq-eqb _ _ w.if-tag-eq4-2.true, sym w.is_there.ensures ∙ w.if-is_there.false)) (λ w. rw (ne_eqb _ _ w.if-tag-eq4-2.false)) c.else-tag-eq4-2.branch-raw
 
 row_4 : tie.Need-returns-then-sender-u
 unfolding first_row turn_rows
-row_4 c = rw (eq-eqb _ _ c.before.before.if-tag-eq1.true, c.if-sender-u.true)
+row_4 c = rw (eq-eqb _ _ c.if-tag-eq1.true, ne_eqb _ _ c.if-sender-u.true)
 
 row_5 : tie.Need-returns-then-not-recovering
 unfolding first_row turn_rows

@@ -43,7 +43,7 @@ recovers c =
     let all : shares_kept a.shares ≡ a.x.setup.k = sym counted.count_shares.ensures ∙ grouped.before.if-count_shares-u.true in
     let found =
     c.before.recovered_from-found.ensures
-    ∙ ap₂ (λ G. recovered_from G.q) grouped.Group-of.ensures (all-taken a.shares a.x.setup.k all) in
+    ∙ ap₂ (λ G. recovered_from G.q) grouped.group_of-group.ensures (all-taken a.shares a.x.setup.k all) in
     rw (c.with_shares-after.ensures, found, eq-eqb _ _ all)
 
 rests : tie.Need-returns
@@ -63,7 +63,7 @@ recovering_spec =
     (λ c κs. c.before.before.before.before.requires.group)
     (λ c. search rules)
     (λ c κs. let r = c.before.before.before.before.before.before.requires in
-    record { order = omega (arith, (group_ranges r c.before.Group-of.ensures).above); few = r.high })
+    record { order = omega (arith, (group_ranges r c.before.group_of-group.ensures).above); few = r.high })
     (λ c κs. search rules)
     recovers
     (λ c κs. search rules)

@@ -24,7 +24,7 @@ returns c =
     let a = (start made).args in
     let u = a.x.setup in
     let ps = take u.k (points a.fresh.places) in
-    let group = made.before.before.before.before.Group-of.ensures in
+    let group = made.before.before.before.before.group_of-group.ensures in
     let kept =
     c.before.before.with_pair-kept.ensures
     ∙ ap (keeping a.fresh) (made.ready_from-ready.ensures.0 ∙ ap (λ G. pair_from G.q ps) group) in
@@ -42,7 +42,7 @@ send_ready_spec =
     (λ c. search rules)
     (λ c. search rules)
     (λ c κs. let r = ranges c.before.before.before.before.before.before.requires.0.here in
-    (record { order = omega (arith, (group_ranges r c.before.before.before.Group-of.ensures).above); few = r.high }, r.boxes))
+    (record { order = omega (arith, (group_ranges r c.before.before.before.group_of-group.ensures).above); few = r.high }, r.boxes))
     (λ c κs. search rules)
     (λ c κs. let pre = (start c.before.before.before.before).requires.0 in can_send (ranges pre.here) pre.room)
     (λ c κs. search rules)

@@ -39,7 +39,7 @@ returns c =
     let grouped = committed.before.before.before in
     let a = (start grouped).args in
     let u = a.x.setup in
-    let group = grouped.Group-of.ensures in
+    let group = grouped.group_of-group.ensures in
     let one = committed.before.before.from_coins-f in
     let two = committed.before.from_coins-f2 in
     let matrix =
@@ -65,11 +65,11 @@ take_deal_spec =
     (λ c. omega (arith, square_small _ (numbers (start c.before)).high))
     (λ c κs. ((numbers (start c.before)).high, (coins (start c.before)).both))
     (λ c κs. let grouped = c.before.before in
-    ((group_ranges (numbers (start grouped)) grouped.Group-of.ensures).modulus, (numbers (start grouped)).high))
+    ((group_ranges (numbers (start grouped)) grouped.group_of-group.ensures).modulus, (numbers (start grouped)).high))
     (λ c. search rules)
     (λ c κs. let grouped = c.before.before.before.before in
     let r = numbers (start grouped) in
-    record { some = (group_ranges r grouped.Group-of.ensures).some; high = r.high; boxes = r.boxes })
+    record { some = (group_ranges r grouped.group_of-group.ensures).some; high = r.high; boxes = r.boxes })
     (λ c κs. let begun = start c.before.before.before.before.before.before in can_send (numbers begun) begun.requires.called.room)
     (λ c κs. search rules)
     (λ c κs. search rules)

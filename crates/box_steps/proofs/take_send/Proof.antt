@@ -22,7 +22,7 @@ returns c =
     let u = a.x.setup in
     let fours =
     made.echo_fours-fours.ensures
-    ∙ ap (λ G. to_boxes u.n zero_four (echo_four G.q u.k a.all)) grouped.Group-of.ensures in
+    ∙ ap (λ G. to_boxes u.n zero_four (echo_four G.q u.k a.all)) grouped.group_of-group.ensures in
     tells Echo c.sending.ensures c.before.heard_for.ensures
     (each_written u (saying ByEcho) zero_four zero_four _ (ranges start.requires.here).boxes refl fours wrote.write_points-bytes.ensures)
 
@@ -34,7 +34,7 @@ take_send_spec =
     (λ c. search rules)
     (λ c. search rules)
     (λ c κs. let r = ranges c.before.before.before.before.before.requires.here in
-    record { some = (group_ranges r c.before.before.Group-of.ensures).some; high = r.high; boxes = r.boxes })
+    record { some = (group_ranges r c.before.before.group_of-group.ensures).some; high = r.high; boxes = r.boxes })
     (λ c κs. let pre = c.before.before.before.before.before.before.before.requires in can_send (ranges pre.here) pre.room)
     (λ c κs. let pre = c.before.before.before.before.before.before.before.before.before.before.requires in
     record { low = lit≤ tt; high = lit≤ tt; place = place pre.here })

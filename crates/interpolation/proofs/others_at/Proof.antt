@@ -44,15 +44,15 @@ loop-again c =
     let inv = c.before.before.loop-j.invariant.1 in (
       omega arith,
       ⊎_elim
-          (λ w. rw (w.4, w.3.ensures, w.2.ensures, inv) (another _ _ _ _ _ w.0.true))
-          (λ w. rw (w.1, inv) (own _ _ _ _ _ w.0.false))
-          c.if-j-i.branch,
+          (λ w. rw (w.made-is, w.product-made.ensures, w.difference-away.ensures, inv) (another _ _ _ _ _ w.if-j-i.true))
+          (λ w. rw (w.made-is, inv) (own _ _ _ _ _ w.if-j-i.false))
+          c.if-j-i.branch-raw,
     )
 
 returns : tie.Need-returns invariant-loop-j decreases-loop-j
 unfolding others
 returns c =
-    let all : c.before.loop-j.j ≡ c.before.before.args.t2.count = omega arith in
+    let all : c.before.loop-j.j ≡ c.before.before.args.all.count = omega arith in
     ap exponent (rw all at c.before.loop-j.invariant.1)
 
 pub others_at_spec : {M : Type 1} → statement M

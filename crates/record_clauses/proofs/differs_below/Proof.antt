@@ -38,13 +38,13 @@ decreases-loop-below k s slots c below₀ below = s - below
 test : (c : tie.After-has_matrix invariant-loop-below decreases-loop-below)
     → let head = c.before.before.before in
     let a = head.before.before.before.before.args in
-    differs a.k a.t2 a.s head.loop-below.below ≡ not c.has_matrix.result
+    differs a.k a.slots a.s head.loop-below.below ≡ not c.has_matrix.result
 unfolding matrix_of
 test c =
     let read = c.before.before.before.before in
     let start = read.before.before.before in
     let a = start.args in
-    tested a.k a.t2 a.s _ _ _ start.requires.used read.matrix_of-c.ensures c.has_matrix.ensures
+    tested a.k a.slots a.s _ _ _ start.requires.used read.matrix_of-c.ensures c.has_matrix.ensures
 
 returns : tie.Need-returns-then-has_matrix invariant-loop-below decreases-loop-below
 unfolding differ_from

@@ -9,7 +9,7 @@ use native.Mathlib.Omega.{arith}
 use lib.Dec.{eqb, ltb}
 use lib.ListN.{get_or, get_or-map}
 use borrow.Author.Rules.{rules}
-use borrow.Author.Tests.{le-ltb}
+use borrow.Author.Tests.{lt-ltb, le-ltb}
 use Rattle.folds.specs.Found.{found3}
 use Rattle.folds.specs.Tests.{◌and◌, ◌or◌, pick}
 use Rattle.folds.specs.Below.{all_below, all_below-zero, all_below_more, all_below_same}
@@ -51,18 +51,18 @@ decreases-loop-j k slot j₀ j = 8 - j
 -- the code's test of a row
 tested : (c : tie.After-zero_from invariant-loop-j decreases-loop-j)
     → let head = c.before.before.before.before.before in
-    c.zero_from.result ≡ rowPasses head.before.args.k head.before.args.t2 head.loop-j.j
+    c.zero_from.result ≡ rowPasses head.before.args.k head.before.args.slot head.loop-j.j
 tested c =
     let met = c.before in
     let head = met.before.before.before.before in
     let k = head.before.args.k in
-    let slot = head.before.args.t2 in
+    let slot = head.before.args.slot in
     let j = head.loop-j.j in
     let column : met.if-slot.column ≡ columnOf k slot j =
     ⊎_elim
-    (λ w. let low : ltb j k ≡ true = w.1.true in rw (w.0.true, low) w.2)
-    (λ w. ⊎_elim (λ v. let high : ltb j k ≡ false = v.1.false in rw (v.0.true, high) w.1) (λ v. rw v.false w.1) w.0.branch)
-    met.if-slot.branch in
+    (λ w. let low : ltb j k ≡ true = lt-ltb _ _ w.if-j-k.true in rw (w.if-slot.true, low) w.column-is)
+    (λ w. ⊎_elim (λ v. let high : ltb j k ≡ false = le-ltb _ _ v.if-j-k.false in rw (v.if-slot.true, high) w.column-is) (λ v. rw v.if-slot.false w.column-is) w.else-slot.branch-raw)
+    met.if-slot.branch-raw in
     (rw column at c.zero_from.ensures) ∙ row_read k slot j
 
 returns : tie.Need-returns-then-not-zero_from invariant-loop-j decreases-loop-j

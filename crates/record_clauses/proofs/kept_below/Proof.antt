@@ -11,4 +11,4 @@ kept_below_spec =
     (λ c. search rules)
     (λ c κs. search rules)
     (λ c. search rules)
-    (λ c. rw c.before.before.kept-1.given.1 c.pair_below.ensures))
+    (λ c. rw c.in-There.is c.pair_below.ensures))

@@ -32,7 +32,7 @@ returns c = all_fails _ _ _ c.before.before.before.before.loop-s-test.true (sym 
 loop-again : tie.Need-loop-s-preserved invariant-loop-s decreases-loop-s
 loop-again c =
     all_below_more _ _ c.before.before.before.loop-s.invariant
-    (⊎_elim (λ w. sym w.1.ensures ∙ w.2.false) (λ w. unused-differs _ _ _ w.false) c.if-slot.branch)
+    (⊎_elim (λ w. sym w.differs_below.ensures ∙ w.if-not-differs_below.false) (λ w. unused-differs _ _ _ w.if-slot.false) c.if-slot.branch-raw)
 
 returns-2 : tie.Need-returns invariant-loop-s decreases-loop-s
 unfolding all_differ

@@ -26,13 +26,13 @@ returns c =
     let enough : met.if-echo_quorum-count_marks.enough ≡ (leb (echo_quorum u) (count_e slot) or leb u.k (count_r slot)) =
     ⊎_elim
     (λ w.
-    let yes = le-leb _ _ w.0.true in
+    let yes = le-leb _ _ w.if-echo_quorum-count_marks.true in
     let e : leb (echo_quorum u) (count_e slot) ≡ true = sym asked ∙ yes in
-    rw e (w.1 ∙ yes))
+    rw e (w.enough-is ∙ yes))
     (λ w.
-    let e : leb (echo_quorum u) (count_e slot) ≡ false = sym asked ∙ lt-leb _ _ w.0.false in
-    rw e (w.3 ∙ ap (leb u.k) w.1.ensures))
-    met.if-echo_quorum-count_marks.branch in
+    let e : leb (echo_quorum u) (count_e slot) ≡ false = sym asked ∙ lt-leb _ _ w.if-echo_quorum-count_marks.false in
+    rw e (w.enough-is ∙ ap (leb u.k) w.count_marks-else-echo_quorum-count_marks.ensures))
+    met.if-echo_quorum-count_marks.branch-raw in
     beq_same c.is_there.result met.if-echo_quorum-count_marks.enough ∙ ap₂ same c.is_there.ensures enough
 
 pub pair_keeps_spec : {M : Type 1} → statement M

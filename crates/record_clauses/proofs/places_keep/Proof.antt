@@ -6,6 +6,7 @@ use mathlib.Core.Bool.{Bool, true, beq}
 use mathlib.Core.Logic.{⊎_elim}
 use Prim.Native.Nat.{ℕ, ◌-◌}
 use borrow.Author.Rules.{rules}
+use borrow.Author.Tests.{not-true, not-false}
 use Rattle.folds.specs.Found.{found5}
 use Rattle.folds.specs.Tests.{◌or◌, same, beq_same}
 use Rattle.folds.specs.Below.{all_below, all_below-zero, all_below_more}
@@ -16,7 +17,7 @@ use Rattle.record_clauses.proofs.places_keep.Statement.{statement}
 use Rattle.record_clauses.proofs.places_keep.Tie as tie
 
 abbrev keeps : Slot → ℕ → Bool
-keeps slot m = same (held slot m) (marked slot.echoed-1 m or marked slot.readied-1 m)
+keeps slot m = same (held slot m) (marked slot.echoed m or marked slot.readied m)
 
 abbrev invariant-loop-m : tie.invariant-loop-m
 invariant-loop-m slot echoed readied m₀ m = all_below m (keeps slot) ≡ true
@@ -27,21 +28,21 @@ decreases-loop-m slot echoed readied m₀ m = 10 - m
 -- the code's test of a place
 tested : (c : tie.After-is_held invariant-loop-m decreases-loop-m)
     → let head = c.before.before.before.before.before in
-    beq c.is_held.result c.before.if-echoed-m.marked ≡ keeps head.before.before.before.args.t1 head.loop-m.m
+    beq c.is_held.result c.before.if-echoed-m.marked ≡ keeps head.before.before.before.args.slot head.loop-m.m
 tested c =
     let met = c.before in
     let head = met.before.before.before.before in
-    let slot = head.before.before.before.args.t1 in
-    let either : met.if-echoed-m.marked ≡ (marked slot.echoed-1 head.loop-m.m or marked slot.readied-1 head.loop-m.m) =
-    ⊎_elim (λ w. rw w.0.true (w.1 ∙ w.0.true)) (λ w. rw w.0.false w.2) met.if-echoed-m.branch in
+    let slot = head.before.before.before.args.slot in
+    let either : met.if-echoed-m.marked ≡ (marked slot.echoed head.loop-m.m or marked slot.readied head.loop-m.m) =
+    ⊎_elim (λ w. rw w.if-echoed-m.true (w.marked-is ∙ w.if-echoed-m.true)) (λ w. rw w.if-echoed-m.false w.marked-is) met.if-echoed-m.branch-raw in
     beq_same c.is_held.result met.if-echoed-m.marked ∙ ap₂ same c.is_held.ensures either
 
 returns : tie.Need-returns-then-is_held-marked invariant-loop-m decreases-loop-m
 unfolding places_keep
-returns c = let turn = c.before.before.before.before in all_fails _ _ _ turn.before.loop-m-test.true (sym (tested c.before) ∙ c.if-is_held-marked.true)
+returns c = let turn = c.before.before.before.before in all_fails _ _ _ turn.before.loop-m-test.true (sym (tested c.before) ∙ not-true _ c.if-is_held-marked.true)
 
 loop-again : tie.Need-loop-m-preserved invariant-loop-m decreases-loop-m
-loop-again c = let turn = c.before.before.before.before in all_below_more _ _ turn.before.before.loop-m.invariant (sym (tested c.before) ∙ c.if-is_held-marked.false)
+loop-again c = let turn = c.before.before.before.before in all_below_more _ _ turn.before.before.loop-m.invariant (sym (tested c.before) ∙ not-false _ c.if-is_held-marked.false)
 
 returns-2 : tie.Need-returns invariant-loop-m decreases-loop-m
 unfolding places_keep

@@ -11,4 +11,4 @@ point_below_spec =
     (λ c. search rules)
     (λ c κs. search rules)
     (λ c. search rules)
-    (λ c. rw c.before.before.point-1.given.1 c.four_below_lem.ensures))
+    (λ c. rw c.in-Held.is c.four_below.ensures))

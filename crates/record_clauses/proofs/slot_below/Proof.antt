@@ -23,7 +23,7 @@ unfolding slot_below
 returns c =
     let turn = c.before.before.before in
     let a = turn.before.before.args in
-    let fails = all_below_not (λ m. point_below a.q (place_at a.t2 m).point) 10 _ turn.loop-m-test.true (sym c.before.point_below.ensures ∙ c.if-not-point_below.true) in
+    let fails = all_below_not (λ m. point_below a.q (place_at a.slot m).point) 10 _ turn.loop-m-test.true (sym c.before.point_below.ensures ∙ c.if-not-point_below.true) in
     rw fails
 
 loop-again : tie.Need-loop-m-preserved invariant-loop-m decreases-loop-m

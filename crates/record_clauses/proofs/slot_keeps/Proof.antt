@@ -15,7 +15,7 @@ abbrev start : tie.Joined-use_keeps → tie.Start
 start c = c.before.before.before.before.before.before
 
 -- all but the last of them
-most : (c : tie.Joined-use_keeps) → slot_keeps (start c).args.group (start c).args.u (start c).args.slot ≡ (c.if-use_keeps.if5 and entries_zero (start c).args.u.k (start c).args.slot)
+most : (c : tie.Joined-use_keeps) → slot_keeps (start c).args.group (start c).args.u (start c).args.slot ≡ (c.if-use_keeps.value and entries_zero (start c).args.u.k (start c).args.slot)
 unfolding slot_keeps
 most c =
     let third = c.before in
@@ -27,10 +27,10 @@ most c =
     let held = use_keeps a.slot and pair in
     let places = places_keep a.slot and held in
     let below = ap (λ (t : Bool). t and passes_in a.group a.u.k a.slot and places) (sym first.before.slot_below.ensures) in
-    let s1 = chain places below (⊎_map (λ w. (w.0.true, w.2 ∙ w.1.ensures)) (λ w. (w.0.false, w.1)) first.if-slot_below.branch) in
-    let s2 = chain held s1 (⊎_map (λ w. (w.0.true, w.2 ∙ w.1.ensures)) (λ w. (w.0.false, w.1)) second.if-passes_in.branch) in
-    let s3 = chain pair s2 (⊎_map (λ w. (w.0.true, w.2 ∙ w.1.ensures)) (λ w. (w.0.false, w.1)) third.if-places_keep.branch) in
-    chain zero s3 (⊎_map (λ w. (w.0.true, w.2 ∙ w.1.ensures)) (λ w. (w.0.false, w.1)) c.if-use_keeps.branch)
+    let s1 = chain places below (⊎_map (λ w. (w.if-slot_below.true, w.value-is ∙ w.passes_in.ensures)) (λ w. (w.if-slot_below.false, w.value-is)) first.if-slot_below.branch-raw) in
+    let s2 = chain held s1 (⊎_map (λ w. (w.if-passes_in.true, w.value-is ∙ w.places_keep.ensures)) (λ w. (w.if-passes_in.false, w.value-is)) second.if-passes_in.branch-raw) in
+    let s3 = chain pair s2 (⊎_map (λ w. (w.if-places_keep.true, w.value-is ∙ w.use_keeps.ensures)) (λ w. (w.if-places_keep.false, w.value-is)) third.if-places_keep.branch-raw) in
+    chain zero s3 (⊎_map (λ w. (w.if-use_keeps.true, w.value-is ∙ w.pair_keeps.ensures)) (λ w. (w.if-use_keeps.false, w.value-is)) c.if-use_keeps.branch-raw)
 
 pub slot_keeps_spec : {M : Type 1} → statement M
 slot_keeps_spec =

@@ -36,7 +36,7 @@ returns c =
     let turn = c.before.before.before in
     let head = turn.before in
     let column = head.before.args.column in
-    all_fails (passes column head.before.args.t2) 8 head.loop-l.l turn.loop-l-test.true
+    all_fails (passes column head.before.args.at) 8 head.loop-l.l turn.loop-l-test.true
     (rw (le-ltb head.loop-l.l column head.loop-l.invariant.0, ne_eqb _ 0 c.if-e-ne0.true))
 
 loop-again : tie.Need-loop-l-preserved invariant-loop-l decreases-loop-l

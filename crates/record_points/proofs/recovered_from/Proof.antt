@@ -6,17 +6,17 @@ use Rattle.record_points.proofs.Values.{kept_fit, kept_said}
 use Rattle.record_points.proofs.recovered_from.Statement.{statement}
 use Rattle.record_points.proofs.recovered_from.Tie as tie
 
-fit : (c : tie.After-points_kept-all) → Fit c.before.args.q c.Points-kept.result
+fit : (c : tie.After-points_kept-all) → Fit c.before.args.q c.points_kept-all.result
 fit c =
     let start = c.before in
-    rw c.Points-kept.ensures (kept_fit _ _ start.requires start.args.keeps)
+    rw c.points_kept-all.ensures (kept_fit _ _ start.requires start.args.keeps)
 
 returns : tie.Need-returns
 unfolding recovered_from pair_through
 returns c =
     let found = c.before.before in
     let start = found.before in
-    rw (found.Points-kept.ensures, kept_said _ _ start.requires start.args.keeps) at c.pair_at.ensures
+    rw (found.points_kept-all.ensures, kept_said _ _ start.requires start.args.keeps) at c.pair_at.ensures
 
 pub recovered_from_spec : {M : Type 1} → statement M
 recovered_from_spec =

@@ -7,4 +7,4 @@ enum_told : tie.Need-enum_told-1
 enum_told c = search rules
 
 pub held_spec : {M : Type 1} → statement M
-held_spec = tie.close (tie.spec enum_told (λ c. search rules) (λ c. rw c.enum_told-1.given.1) (λ c. rw c.before.point-1.given.1))
+held_spec = tie.close (tie.spec enum_told (λ c. search rules) (λ c. rw c.in-Silent.is) (λ c. rw c.in-Held.is))

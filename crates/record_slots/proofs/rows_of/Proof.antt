@@ -17,7 +17,7 @@ decreases-loop-j c rows₀ j₀ rows j = 8 - j
 
 returns : tie.Need-returns invariant-loop-j decreases-loop-j
 returns c =
-    let l = c.before.before.args.t1 in
+    let l = c.before.before.args.c in
     let len : length l ≡ 8 = search rules in
     filling_map row_of l [] c.before.loop-j.invariant c.loop-j-test.false refl len
 

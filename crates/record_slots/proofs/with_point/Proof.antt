@@ -4,10 +4,10 @@ use Rattle.record_slots.proofs.with_point.Statement.{statement}
 use Rattle.record_slots.proofs.with_point.Tie as tie
 
 by-echo : tie.Need-returns-in-ByEcho
-by-echo c = rw (c.before.enum_told-1.given.1, c.before.before.before.held-place.ensures)
+by-echo c = rw (c.in-ByEcho.is, c.held-place.ensures)
 
 by-ready : tie.Need-returns-in-ByReady
-by-ready c = rw (c.before.enum_told-in-ByReady-1.given.1, c.before.before.before.held-place.ensures)
+by-ready c = rw (c.in-ByReady.is, c.held-place.ensures)
 
 pub with_point_spec : {M : Type 1} → statement M
 with_point_spec =

@@ -25,8 +25,8 @@ refused x f e = sym (false_unless (sound x) (λ h. true≢false (sym (f (tests x
 group : (c : tie.Else-not-group_keeps) → group_keeps c.before.before.before.args.x.setup ≡ true
 group c = sym c.before.group_keeps.ensures ∙ c.if-not-group_keeps.false
 
-numbers : (c : tie.Else-not-numbers_keep_lem) → numbers_keep c.before.before.before.before.before.args.x.setup ≡ true
-numbers c = sym c.before.numbers_keep_lem.ensures ∙ c.if-not-numbers_keep_lem.false
+numbers : (c : tie.Else-not-numbers_keep) → numbers_keep c.before.before.before.before.before.args.x.setup ≡ true
+numbers c = sym c.before.numbers_keep.ensures ∙ c.if-not-numbers_keep.false
 
 -- the two calls that are given the group
 abbrev asked3 : tie.After-slots_keep → Record
@@ -37,7 +37,7 @@ slots-tested : (c : tie.After-slots_keep)
 slots-tested c =
     let x = asked3 c in
     c.slots_keep.ensures
-    ∙ ap (λ (G : Group). every_slot x.slots (slot_keeps G x.setup)) c.before.before.Group-of.ensures
+    ∙ ap (λ (G : Group). every_slot x.slots (slot_keeps G x.setup)) c.before.before.group_of-group.ensures
 
 -- from the branch behind the fourth test
 abbrev slots4 : tie.Else-not-matrices_differ → tie.After-slots_keep
@@ -50,13 +50,13 @@ recovery-tested : (c : tie.After-recovery_keeps)
     → c.recovery_keeps.result ≡ recovery_passes (group_in (asked3 (asked7 c))).q (asked3 (asked7 c))
 recovery-tested c =
     let slots = asked7 c in
-    c.recovery_keeps.ensures ∙ ap (λ (G : Group). recovery_passes G.q (asked3 slots)) slots.before.before.Group-of.ensures
+    c.recovery_keeps.ensures ∙ ap (λ (G : Group). recovery_passes G.q (asked3 slots)) slots.before.before.group_of-group.ensures
 
 returns : tie.Need-returns-then-not-group_keeps
 returns c = refused _ (λ t. t.group) (sym c.before.group_keeps.ensures ∙ c.if-not-group_keeps.true)
 
-returns-2 : tie.Need-returns-then-not-numbers_keep_lem
-returns-2 c = refused _ (λ t. t.numbers) (sym c.before.numbers_keep_lem.ensures ∙ c.if-not-numbers_keep_lem.true)
+returns-2 : tie.Need-returns-then-not-numbers_keep
+returns-2 c = refused _ (λ t. t.numbers) (sym c.before.numbers_keep.ensures ∙ c.if-not-numbers_keep.true)
 
 slots-keep-requires : tie.Need-slots_keep-requires
 slots-keep-requires c κs =
@@ -66,7 +66,7 @@ slots-keep-requires c κs =
     let s = (bounds u (numbers second)).sizes in
     let twice = (group_rule u (group first)).twice in
     let p : 0 < (group_of u.group).p = omega arith in
-    (rw c.before.Group-of.ensures p, s)
+    (rw c.before.group_of-group.ensures p, s)
 
 returns-3 : tie.Need-returns-then-not-slots_keep
 returns-3 c = refused _ (λ t. t.slots) (sym (slots-tested c.before) ∙ c.if-not-slots_keep.true)

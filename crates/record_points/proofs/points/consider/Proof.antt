@@ -16,11 +16,11 @@ returns c =
 
 returns-2 : tie.Need-returns-in-Absent
 unfolding considered
-returns-2 c = rw (lt-leb _ _ c.before.before.if-k-all.false, c.enum_told-1.given.1)
+returns-2 c = rw (lt-leb _ _ c.if-k-all.false, c.in-Absent.is)
 
 returns-3 : tie.Need-returns-in-There
 unfolding considered
-returns-3 c = rw (lt-leb _ _ c.before.before.before.before.if-k-all.false, c.before.before.kept-1.given.1) c.with_point.ensures
+returns-3 c = rw (lt-leb _ _ c.if-k-all.false, c.in-There.is) c.with_point.ensures
 
 pub consider_spec : {M : Type 1} → statement M
 consider_spec =

@@ -7,7 +7,7 @@ use Rattle.record_points.proofs.points.points_held.Tie as tie
 returns : tie.Need-returns
 returns c =
     let a = c.before.before.args in
-    rw (c.before.sides_in-keeps.ensures, side_points_lem a.row a.k a.places) at c.Points-kept.ensures
+    rw (c.before.sides_in-keeps.ensures, side_points_lem a.row a.k a.places) at c.points_kept.ensures
 
 pub points_held_spec : {M : Type 1} → statement M
 points_held_spec = tie.close (tie.spec (λ c κs. search rules) (λ c κs. search rules) returns)

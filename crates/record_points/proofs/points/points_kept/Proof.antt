@@ -30,7 +30,7 @@ decreases-loop-m k keeps made₀ m₀ number₀ made m number = 10 - m
 loop-holds : tie.Need-loop-m-init invariant-loop-m decreases-loop-m
 loop-holds c =
     let none = c.no_points-made.ensures ∙ considered_none c.before.args.k in
-    (omega arith, omega arith, rw (gather-zero (pair_at c.before.args.t1)) none)
+    (omega arith, omega arith, rw (gather-zero (pair_at c.before.args.keeps)) none)
 
 loop-again : tie.Need-loop-m-preserved invariant-loop-m decreases-loop-m
 loop-again c =
@@ -38,8 +38,8 @@ loop-again c =
     let a = c.before.before.before.before.before.args in (
       omega arith,
       omega arith,
-      rw (gather-more (pair_at a.t1))
-          (rw (loop.invariant.2, loop.invariant.1) at c.consider-made.ensures ∙ considered_more a.k loop.m _ (get_or a.t1 loop.m nothing)),
+      rw (gather-more (pair_at a.keeps))
+          (rw (loop.invariant.2, loop.invariant.1) at c.consider-made.ensures ∙ considered_more a.k loop.m _ (get_or a.keeps loop.m nothing)),
     )
 
 returns : tie.Need-returns invariant-loop-m decreases-loop-m

@@ -8,5 +8,5 @@ pub side_in_spec : {M : Type 1} → statement M
 side_in_spec =
     tie.close
     (found3 tie.spec (search rules)
-    (λ c. rw c.enum_told-1.given.1)
-    (λ c. rw (c.before.before.point-1.given.1, c.side_of.ensures)))
+    (λ c. rw c.in-Silent.is)
+    (λ c. rw (c.in-Held.is, c.side_of.ensures)))

@@ -19,8 +19,8 @@ decreases-loop-m row places made₀ m₀ made m = 10 - m
 returns : tie.Need-returns invariant-loop-m decreases-loop-m
 returns c =
     let a = c.before.before.args in
-    let len : length a.t1 ≡ 10 = search rules in
-    filling_map (side_kept a.row) a.t1 silent c.before.loop-m.invariant c.loop-m-test.false refl len
+    let len : length a.places ≡ 10 = search rules in
+    filling_map (side_kept a.row) a.places silent c.before.loop-m.invariant c.loop-m-test.false refl len
 
 pub sides_in_spec : {M : Type 1} → statement M
 sides_in_spec =

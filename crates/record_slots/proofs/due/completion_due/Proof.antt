@@ -13,9 +13,9 @@ use Rattle.record_slots.proofs.due.completion_due.Tie as tie
 by-ready : tie.Need-returns-in-ByReady
 unfolding count_r count_marks
 by-ready c =
-    let a = c.before.before.before.before.args in
-    ap (λ n. eqb n (a.u.k + a.u.t)) c.before.count_marks.ensures
-    ∙ sym (ap (λ s. completion_due a.u s a.slot) c.before.before.enum_told-in-ByReady-1.given.1)
+    let a = c.args in
+    ap (λ n. eqb n (a.u.k + a.u.t)) c.count_marks.ensures
+    ∙ sym (ap (λ s. completion_due a.u s a.slot) c.in-ByReady.is)
 
 pub completion_due_spec : {M : Type 1} → statement M
 completion_due_spec =
@@ -24,6 +24,6 @@ completion_due_spec =
     (λ c. search rules)
     (λ c. search rules)
     (λ c κs. search rules)
-    (λ c. let r = c.before.before.before.before.requires in omega (arith, r.high, r.faults))
-    (λ c. rw c.enum_told-1.given.1)
+    (λ c. let r = c.requires in omega (arith, r.high, r.faults))
+    (λ c. rw c.in-ByEcho.is)
     by-ready)

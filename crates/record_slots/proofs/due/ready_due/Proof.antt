@@ -29,27 +29,19 @@ module _ (u : SetUp) (slot : Slot) {side : Side} {e r E : ℕ} (he : e ≡ count
 
 by-echo : tie.Need-returns-then-echoes-quorum
 by-echo c =
-    let counted = c.before.before.before.before in
-    let a = counted.before.before.before.args in
-    sym (echo-due a.u a.slot counted.before.before.count_marks-echoes.ensures counted.before.count_marks-readies.ensures counted.echo_quorum-quorum.ensures c.before.before.enum_told-1.given.1 ∙ (rw (eq-eqb _ _ c.before.if-echoes-quorum.true)))
+    sym (echo-due c.args.u c.args.slot c.count_marks-echoes.ensures c.count_marks-readies.ensures c.echo_quorum-quorum.ensures c.in-ByEcho.is ∙ (rw (eq-eqb _ _ c.if-echoes-quorum.true)))
 
 echo-other : tie.Need-returns-else-echoes-quorum
 echo-other c =
-    let counted = c.before.before.before in
-    let a = counted.before.before.before.args in
-    sym (echo-due a.u a.slot counted.before.before.count_marks-echoes.ensures counted.before.count_marks-readies.ensures counted.echo_quorum-quorum.ensures c.before.enum_told-1.given.1 ∙ (rw (ne_eqb _ _ c.if-echoes-quorum.false)))
+    sym (echo-due c.args.u c.args.slot c.count_marks-echoes.ensures c.count_marks-readies.ensures c.echo_quorum-quorum.ensures c.in-ByEcho.is ∙ (rw (ne_eqb _ _ c.if-echoes-quorum.false)))
 
 by-ready : tie.Need-returns-then-readies-u
 by-ready c =
-    let counted = c.before.before.before.before in
-    let a = counted.before.before.before.args in
-    sym (ready-due a.u a.slot counted.before.before.count_marks-echoes.ensures counted.before.count_marks-readies.ensures counted.echo_quorum-quorum.ensures c.before.before.enum_told-in-ByReady-1.given.1 ∙ (rw (eq-eqb _ _ c.if-readies-u.true)))
+    sym (ready-due c.args.u c.args.slot c.count_marks-echoes.ensures c.count_marks-readies.ensures c.echo_quorum-quorum.ensures c.in-ByReady.is ∙ (rw (eq-eqb _ _ c.if-readies-u.true)))
 
 ready-other : tie.Need-returns-else-readies-u
 ready-other c =
-    let counted = c.before.before.before.before in
-    let a = counted.before.before.before.args in
-    sym (ready-due a.u a.slot counted.before.before.count_marks-echoes.ensures counted.before.count_marks-readies.ensures counted.echo_quorum-quorum.ensures c.before.before.enum_told-in-ByReady-1.given.1 ∙ (rw (ne_eqb _ _ c.if-readies-u.false)))
+    sym (ready-due c.args.u c.args.slot c.count_marks-echoes.ensures c.count_marks-readies.ensures c.echo_quorum-quorum.ensures c.in-ByReady.is ∙ (rw (ne_eqb _ _ c.if-readies-u.false)))
 
 pub ready_due_spec : {M : Type 1} → statement M
 ready_due_spec =

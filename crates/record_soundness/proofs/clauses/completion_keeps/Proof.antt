@@ -11,25 +11,19 @@ use Rattle.record_soundness.proofs.clauses.completion_keeps.Statement.{statement
 use Rattle.record_soundness.proofs.clauses.completion_keeps.Tie as tie
 
 returns : tie.Need-returns-then-s-ge-SLOTS
-returns c = rw (c.before.before.completion-1.given.1, le-ltb _ 20 c.if-s-ge-SLOTS.true)
+returns c = rw (c.in-With.is, le-ltb _ 20 c.if-s-ge-SLOTS.true)
 
 returns-2 : tie.Need-returns-then-not-slot
 returns-2 c =
-    let first = c.before.before.before in
-    let done = first.before.before in
-    let x = done.before.before.before.args.t1 in
-    let unused : (slot_at x done.completion-1.given.0.0).used ≡ false = not-true _ c.if-not-slot.true in
-    rw (done.completion-1.given.1, lt-ltb _ 20 first.if-s-ge-SLOTS.false, unused)
+    let unused : (slot_at c.args.x c.in-With.s).used ≡ false = not-true _ c.if-not-slot.true in
+    rw (c.in-With.is, lt-ltb _ 20 c.if-s-ge-SLOTS.false, unused)
 
 returns-4 : tie.Need-returns-else-not-slot
 unfolding count_r count_marks
 returns-4 c =
-    let second = c.before.before.before.before in
-    let first = second.before.before.before in
-    let done = first.before.before in
-    let x = done.before.before.before.args.t1 in
-    let used : (slot_at x done.completion-1.given.0.0).used ≡ true = not-false _ second.if-not-slot.false in
-    rw (done.completion-1.given.1, lt-ltb _ 20 first.if-s-ge-SLOTS.false, used)
+    let x = c.args.x in
+    let used : (slot_at x c.in-With.s).used ≡ true = not-false _ c.if-not-slot.false in
+    rw (c.in-With.is, lt-ltb _ 20 c.if-s-ge-SLOTS.false, used)
     (ap (leb (x.setup.k + x.setup.t)) c.count_marks.ensures)
 
 pub completion_keeps_spec : {M : Type 1} → statement M

@@ -32,7 +32,7 @@ loop-again : tie.Need-loop-t-preserved invariant-loop-t decreases-loop-t
 loop-again c =
     let head = c.before.before.before.before in
     let a = head.before.args in
-    all_below_more (silentFor a.t1 a.m) head.loop-t.t head.loop-t.invariant (ap not c.if-marks-m.false)
+    all_below_more (silentFor a.heard a.m) head.loop-t.t head.loop-t.invariant (ap not c.if-marks-m.false)
 
 returns-2 : tie.Need-returns invariant-loop-t decreases-loop-t
 unfolding heard_clear

@@ -8,7 +8,7 @@ use Prim.Native.Nat.{ℕ, ◌-◌}
 use native.Mathlib.Omega.{arith}
 use lib.Dec.{leb, ltb}
 use borrow.Author.Rules.{rules}
-use borrow.Author.Tests.{not-true, not-false, lt-leb}
+use borrow.Author.Tests.{lt-leb}
 use Rattle.folds.specs.Tests.{◌and◌, implies}
 use Rattle.folds.specs.Below.{all_below, all_below-zero, all_below_more, any_below}
 use Rattle.rules.specs.declared.Marks.{Marks}
@@ -44,8 +44,8 @@ returns c =
     let a = turn.before.before.args in
     let m = turn.before.loop-m.m in
     let n = c.before.marked_under-n.result in
-    all_fails (passes a.marks a.t2) 10 m turn.loop-m-test.true
-    (sym (tested a.marks a.t2 m n c.before.marked_under-n.ensures) ∙ rw (lt-leb n 1 c.if-n-gt1.true))
+    all_fails (passes a.marks a.heard) 10 m turn.loop-m-test.true
+    (sym (tested a.marks a.heard m n c.before.marked_under-n.ensures) ∙ rw (lt-leb n 1 c.if-n-gt1.true))
 
 returns-2 : tie.Need-returns-then-not-heard-m invariant-loop-m decreases-loop-m
 unfolding kind_keeps
@@ -55,9 +55,9 @@ returns-2 c =
     let a = turn.before.before.args in
     let m = turn.before.loop-m.m in
     let n = counts.marked_under-n.result in
-    let unheard : marked a.t2 m ≡ false = not-true _ c.if-not-heard-m.true in
-    all_fails (passes a.marks a.t2) 10 m turn.loop-m-test.true
-    (sym (tested a.marks a.t2 m n counts.marked_under-n.ensures) ∙ rw (c.before.before.if-n-eq1.true, unheard))
+    let unheard : marked a.heard m ≡ false = c.if-not-heard-m.true in
+    all_fails (passes a.marks a.heard) 10 m turn.loop-m-test.true
+    (sym (tested a.marks a.heard m n counts.marked_under-n.ensures) ∙ rw (c.before.before.if-n-eq1.true, unheard))
 
 loop-again : tie.Need-loop-m-preserved invariant-loop-m decreases-loop-m
 loop-again c =
@@ -65,13 +65,13 @@ loop-again c =
     let a = head.before.args in
     let m = head.loop-m.m in
     let n = c.before.before.marked_under-n.result in
-    let kept : counted n (marked a.t2 m) ≡ true =
+    let kept : counted n (marked a.heard m) ≡ true =
     ⊎_elim
-    (λ w. let heard : marked a.t2 m ≡ true = not-false _ w.2.false in rw (w.0.true, heard))
+    (λ w. let heard : marked a.heard m ≡ true = w.if-not-heard-m.false in rw (w.if-n-eq1.true, heard))
     (λ w. let none : n ≡ 0 = omega arith in rw none)
-    c.if-n-eq1.branch in
-    all_below_more (passes a.marks a.t2) m head.loop-m.invariant
-    (sym (tested a.marks a.t2 m n c.before.before.marked_under-n.ensures) ∙ kept)
+    c.if-n-eq1.branch-raw in
+    all_below_more (passes a.marks a.heard) m head.loop-m.invariant
+    (sym (tested a.marks a.heard m n c.before.before.marked_under-n.ensures) ∙ kept)
 
 returns-3 : tie.Need-returns invariant-loop-m decreases-loop-m
 unfolding kind_keeps

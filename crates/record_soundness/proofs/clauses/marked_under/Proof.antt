@@ -20,13 +20,13 @@ decreases-loop-s m marks n₀ s₀ n s = 20 - s
 add-n : tie.Need-overflow_add-n invariant-loop-s decreases-loop-s
 add-n c =
     let head = c.before.before.before.before in
-    omega (arith, count_below_le (mark_in head.before.args.t1 head.before.args.m) head.loop-s.s)
+    omega (arith, count_below_le (mark_in head.before.args.marks head.before.args.m) head.loop-s.s)
 
 loop-again : tie.Need-loop-s-preserved invariant-loop-s decreases-loop-s
 loop-again c =
     let turn = c.before.before.before in
     let next = counted_more _ 20 _ turn.loop-s-test.true turn.before.loop-s.invariant in
-    ⊎_elim (λ w. next.0 w.0.true w.1) (λ w. next.1 w.0.false w.1) c.if-here-m.branch
+    ⊎_elim (λ w. next.0 w.if-here-m.true w.n-is) (λ w. next.1 w.if-here-m.false w.n-is) c.if-here-m.branch-raw
 
 returns : tie.Need-returns invariant-loop-s decreases-loop-s
 unfolding marked_under

@@ -24,7 +24,7 @@ loop-again c = filling_more c.before.before.before.loop-s.invariant c.before.bef
 returns : tie.Need-returns invariant-loop-s decreases-loop-s
 unfolding marks_in
 returns c =
-    let slots = c.before.before.args.t1 in
+    let slots = c.before.before.args.slots in
     let len : length slots ≡ 20 = search rules in
     filling_map (marks_for c.before.before.args.tag) slots no_slot c.before.loop-s.invariant c.loop-s-test.false refl len
 

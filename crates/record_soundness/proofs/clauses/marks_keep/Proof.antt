@@ -7,7 +7,6 @@ use Prim.Native.Nat.{ℕ}
 use lib.Dec.{leb}
 use lib.ListN.{get_or, get_or-map}
 use borrow.Author.Rules.{rules}
-use borrow.Author.Tests.{not-true, not-false}
 use Rattle.folds.specs.Found.{found3}
 use Rattle.folds.specs.Tests.{◌and◌, implies}
 use Rattle.folds.specs.Below.{all_below, any_below, count_below}
@@ -40,30 +39,30 @@ module _ (f : Slot → Marks) (none : f no_slot ≡ no_marks) (slots : List Slot
 
 -- what the first call tests
 echo : (c : tie.After-kind_keeps)
-    → let x = c.before.before.before.before.args.t1 in
-    clause (λ slot. slot.echoed) x.slots-1 (get_or x.heard 1 no_marks) ≡ c.kind_keeps.result
+    → let x = c.before.before.before.before.args.x in
+    clause (λ slot. slot.echoed) x.slots (get_or x.heard 1 no_marks) ≡ c.kind_keeps.result
 unfolding marks_in
 echo c =
-    let x = c.before.before.before.before.args.t1 in
+    let x = c.before.before.before.before.args.x in
     let heard = get_or x.heard 1 no_marks in
     sym
     (c.kind_keeps.ensures
     ∙ ap (λ (marks : List Marks). kind_keeps marks heard) c.before.before.marks_in-echoed.ensures
-    ∙ kind (λ slot. slot.echoed) refl x.slots-1 heard)
+    ∙ kind (λ slot. slot.echoed) refl x.slots heard)
 
 returns : tie.Need-returns-then-not-kind_keeps
 unfolding marks_keep
-returns c = rw (echo c.before ∙ not-true _ c.if-not-kind_keeps.true)
+returns c = rw (echo c.before ∙ c.if-not-kind_keeps.true)
 
 returns-2 : tie.Need-returns
 unfolding marks_keep marks_in
 returns-2 c =
-    let x = c.before.before.before.before.before.before.before.before.args.t1 in
+    let x = c.before.before.before.before.before.before.before.before.args.x in
     let heard = get_or x.heard 2 no_marks in
-    rw (echo c.before.before.before.before ∙ not-false _ c.before.before.before.if-not-kind_keeps.false)
+    rw (echo c.before.before.before.before ∙ c.before.before.before.if-not-kind_keeps.false)
     (c.kind_keeps-2.ensures
     ∙ ap (λ (marks : List Marks). kind_keeps marks heard) c.before.before.marks_in-readied.ensures
-    ∙ kind (λ slot. slot.readied) refl x.slots-1 heard)
+    ∙ kind (λ slot. slot.readied) refl x.slots heard)
 
 pub marks_keep_spec : {M : Type 1} → statement M
 marks_keep_spec =

@@ -23,22 +23,22 @@ abbrev start : tie.Joined-not-progress → tie.Start
 start c = (counted c).before.before.before.before.before.before
 
 abbrev given : tie.Joined-not-progress → Record
-given c = (start c).args.t2
+given c = (start c).args.x
 
 -- the first test: a command needs completion
-done : (c : tie.Joined-not-progress) → c.if-not-progress.if2 ≡ implies (given c).progress-1.commanded (is_done (given c).progress-1.completion)
+done : (c : tie.Joined-not-progress) → c.if-not-progress.value ≡ implies (given c).progress.commanded (is_done (given c).progress.completion)
 done c =
-    let commanded = (given c).progress-1.commanded in
-    let needed : Bool → Bool = λ b. implies b (is_done (given c).progress-1.completion) in
+    let commanded = (given c).progress.commanded in
+    let needed : Bool → Bool = λ b. implies b (is_done (given c).progress.completion) in
     ⊎_elim
-    (λ w. w.1 ∙ w.0.true ∙ sym (ap needed (not-true commanded w.0.true)))
-    (λ w. w.2 ∙ w.1.ensures ∙ sym (ap needed (not-false commanded w.0.false)))
-    c.if-not-progress.branch
+    (λ w. w.value-is ∙ w.if-not-progress.true ∙ sym (ap needed (not-true commanded w.if-not-progress.true)))
+    (λ w. w.value-is ∙ w.is_done.ensures ∙ sym (ap needed (not-false commanded w.if-not-progress.false)))
+    c.if-not-progress.branch-raw
 
 -- all but the last test
 most : (c : tie.Joined-n-u)
     → let first = c.before.before.before in
-    recovery_passes (start first).args.q (given first) ≡ (c.if-n-u.if5 and kept_below (start first).args.q (given first).recovered-1.auto)
+    recovery_passes (start first).args.q (given first) ≡ (c.if-n-u.value and kept_below (start first).args.q (given first).recovered.kept)
 unfolding recovery_passes
 most c =
     let third = c.before in
@@ -48,18 +48,18 @@ most c =
     let x = given first in
     let k = x.setup.k in
     let count = (counted first).count_shares-n in
-    let below = kept_below q x.recovered-1.kept in
-    let there = same (is_there x.recovered-1.kept) (eqb (shares_kept x.shares-1) k) and below in
-    let few = leb (shares_kept x.shares-1) k and there in
-    let shares = shares_keep q x.progress-1.commanded (get_or x.heard-1 3 no_marks) x.shares-1 in
+    let below = kept_below q x.recovered.kept in
+    let there = same (is_there x.recovered.kept) (eqb (shares_kept x.shares) k) and below in
+    let few = leb (shares_kept x.shares) k and there in
+    let shares = shares_keep q x.progress.commanded (get_or x.heard 3 no_marks) x.shares in
     let s1 = ap (λ (b : Bool). b and shares and few) (sym (done first)) in
-    let s2 = chain few s1 (⊎_map (λ w. (w.0.true, w.2 ∙ w.1.ensures)) (λ w. (w.0.false, w.1)) second.if-is_done.branch) in
-    let s3 = chain there s2 (⊎_map (λ w. (w.0.true, w.2 ∙ ap (λ (n : ℕ). leb n k) count.ensures)) (λ w. (w.0.false, w.1)) third.if-shares_keep.branch) in
+    let s2 = chain few s1 (⊎_map (λ w. (w.if-is_done.true, w.value-is ∙ w.shares_keep.ensures)) (λ w. (w.if-is_done.false, w.value-is)) second.if-is_done.branch-raw) in
+    let s3 = chain there s2 (⊎_map (λ w. (w.if-shares_keep.true, w.value-is ∙ ap (λ (n : ℕ). leb n k) count.ensures)) (λ w. (w.if-shares_keep.false, w.value-is)) third.if-shares_keep.branch-raw) in
     chain below s3
     (⊎_map
-    (λ w. (w.0.true, w.2 ∙ beq_same first.before.before.is_there-given.result (eqb count.result k) ∙ ap₂ same first.before.before.is_there-given.ensures (ap (λ (n : ℕ). eqb n k) count.ensures)))
-    (λ w. (w.0.false, w.1))
-    c.if-n-u.branch)
+    (λ w. (w.if-n-u.true, w.value-is ∙ beq_same first.before.before.is_there-given.result (eqb count.result k) ∙ ap₂ same first.before.before.is_there-given.ensures (ap (λ (n : ℕ). eqb n k) count.ensures)))
+    (λ w. (w.if-n-u.false, w.value-is))
+    c.if-n-u.branch-raw)
 
 pub recovery_keeps_spec : {M : Type 1} → statement M
 recovery_keeps_spec =

@@ -3,7 +3,6 @@ use mathlib.Core.Path.{◌≡◌, refl, sym, ap, ◌∙◌}
 use mathlib.Core.Bool.{not}
 use Prim.Native.Nat.{ℕ, ◌+◌}
 use borrow.Author.Rules.{rules}
-use borrow.Author.Tests.{not-true, not-false}
 use Rattle.folds.specs.Found.{found3}
 use Rattle.folds.specs.Below.{all_below}
 use Rattle.rules.specs.declared.Record.{Record}
@@ -14,13 +13,13 @@ use Rattle.record_soundness.proofs.clauses.sender_zero.Statement.{statement}
 use Rattle.record_soundness.proofs.clauses.sender_zero.Tie as tie
 
 -- tag t + 1 is heard at index t
-tags : (x : Record) (m : ℕ) → all_below 4 (λ t. not (heard_for x (t + 1) m)) ≡ heard_clear x.heard-1 m
+tags : (x : Record) (m : ℕ) → all_below 4 (λ t. not (heard_for x (t + 1) m)) ≡ heard_clear x.heard m
 unfolding heard_clear all_below
 tags x m = refl
 
 returns : tie.Need-returns-then-not-slots_clear
 unfolding sender_zero every_slot
-returns c = rw (sym c.before.slots_clear.ensures ∙ not-true _ c.if-not-slots_clear.true)
+returns c = rw (sym c.before.slots_clear.ensures ∙ c.if-not-slots_clear.true)
 
 returns-2 : tie.Need-returns-then-not-heard_clear
 unfolding sender_zero every_slot
@@ -28,8 +27,8 @@ returns-2 c =
     let first = c.before.before.before in
     let a = first.before.before.before.args in
     rw (
-      sym first.before.slots_clear.ensures ∙ not-false _ first.if-not-slots_clear.false,
-      tags a.t1 a.m ∙ sym c.before.heard_clear.ensures ∙ not-true _ c.if-not-heard_clear.true,
+      sym first.before.slots_clear.ensures ∙ first.if-not-slots_clear.false,
+      tags a.x a.m ∙ sym c.before.heard_clear.ensures ∙ c.if-not-heard_clear.true,
     )
 
 returns-3 : tie.Need-returns
@@ -39,8 +38,8 @@ returns-3 c =
     let first = second.before.before.before in
     let a = first.before.before.before.args in
     rw (
-      sym first.before.slots_clear.ensures ∙ not-false _ first.if-not-slots_clear.false,
-      tags a.t1 a.m ∙ sym second.before.heard_clear.ensures ∙ not-false _ second.if-not-heard_clear.false,
+      sym first.before.slots_clear.ensures ∙ first.if-not-slots_clear.false,
+      tags a.x a.m ∙ sym second.before.heard_clear.ensures ∙ second.if-not-heard_clear.false,
     )
     (ap not c.is_there.ensures)
 

@@ -46,12 +46,12 @@ loop-again c =
       all_below_more (passes x) m head.loop-m.invariant.1
           (⊎_elim
           (λ w.
-          let above : x.setup.n ≤ m = omega (arith, w.0.true) in
-          rw (le-ltb m x.setup.n above) (sym w.1.ensures ∙ w.2.false))
+          let above : x.setup.n ≤ m = omega (arith, w.if-u-number.true) in
+          rw (le-ltb m x.setup.n above) (sym w.sender_zero.ensures ∙ w.if-not-sender_zero.false))
           (λ w.
-          let below : m < x.setup.n = omega (arith, w.false) in
+          let below : m < x.setup.n = omega (arith, w.if-u-number.false) in
           rw (lt-ltb m x.setup.n below))
-          c.if-u-number.branch),
+          c.if-u-number.branch-raw),
     )
 
 returns-2 : tie.Need-returns invariant-loop-m decreases-loop-m

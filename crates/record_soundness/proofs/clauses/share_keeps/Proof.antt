@@ -11,13 +11,12 @@ use Rattle.record_soundness.proofs.clauses.share_keeps.Tie as tie
 
 -- a share is there: all but the last test of it
 most : (c : tie.Joined-heard)
-    → let a = c.before.before.before.before.args in
-    share_keeps a.q a.commanded a.heard a.share.kept ≡ (c.if-heard.if2 and pair_below a.q c.before.before.kept-1.given.0.0)
+    → let a = c.args in
+    share_keeps a.q a.commanded a.heard a.share.kept ≡ (c.if-heard.t-9 and pair_below a.q c.in-There.pair)
 most c =
-    let a = c.before.before.before.before.args in
-    let kept = c.before.before.kept-1 in
-    chain (pair_below a.q kept.given.0.0) (ap (share_keeps a.q a.commanded a.heard) kept.given.1)
-    (⊎_map (λ w. (w.0.true, w.1)) (λ w. (w.0.false, w.1)) c.if-heard.branch)
+    let a = c.args in
+    chain (pair_below a.q c.in-There.pair) (ap (share_keeps a.q a.commanded a.heard) c.in-There.is)
+    (⊎_map (λ w. (w.if-heard.true, w.t-9-is)) (λ w. (w.if-heard.false, w.t-9-is)) c.if-heard.branch-raw)
 
 pub share_keeps_spec : {M : Type 1} → statement M
 share_keeps_spec =
@@ -27,5 +26,5 @@ share_keeps_spec =
     (λ c. search rules)
     (λ c κs. search rules)
     (λ c. search rules)
-    (λ c. chain_then (most c.before.before) c.before.if-commanded.true c.pair_below.ensures)
-    (λ c. chain_else _ (most c.before) c.if-commanded.false))
+    (λ c. chain_then (most c.before.before) c.if-commanded.true-raw c.pair_below.ensures)
+    (λ c. chain_else _ (most c.before) c.if-commanded.false-raw))

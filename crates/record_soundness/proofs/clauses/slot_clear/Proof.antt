@@ -15,13 +15,13 @@ abbrev start : tie.Joined-not-is_held → tie.Start
 start c = c.before.before.before.before.before
 
 -- all but the last test
-most : (c : tie.Joined-not-is_held) → slot_clear (start c).args.m (start c).args.t1 ≡ (c.if-not-is_held.if2 and not (marked (start c).args.t1.readied (start c).args.m))
+most : (c : tie.Joined-not-is_held) → slot_clear (start c).args.m (start c).args.slot ≡ (c.if-not-is_held.value and not (marked (start c).args.slot.readied (start c).args.m))
 most c =
-    let slot = (start c).args.t1 in
+    let slot = (start c).args.slot in
     let m = (start c).args.m in
-    chain (not (marked slot.readied-1 m))
-    (ap (λ (b : Bool). not b and not (marked slot.echoed-1 m) and not (marked slot.readied-1 m)) (sym c.before.is_held.ensures))
-    (⊎_map (λ w. (w.0.true, w.2)) (λ w. (w.0.false, w.1)) c.if-not-is_held.branch)
+    chain (not (marked slot.readied m))
+    (ap (λ (b : Bool). not b and not (marked slot.echoed m) and not (marked slot.readied m)) (sym c.before.is_held.ensures))
+    (⊎_map (λ w. (w.if-not-is_held.true-raw, w.value-is)) (λ w. (w.if-not-is_held.false-raw, w.value-is)) c.if-not-is_held.branch-raw)
 
 pub slot_clear_spec : {M : Type 1} → statement M
 slot_clear_spec =
