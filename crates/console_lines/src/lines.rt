@@ -13,6 +13,8 @@ ghost use Rattle.console_lines.specs.Lines.{
   NextIs,
 };
 
+use std::io::{Read, Stdin};
+
 // The bytes that have come and are not taken yet: those of the buffer from one place to another.
 #[derive(Clone, Copy)]
 pub struct Held {
@@ -67,18 +69,16 @@ fn move_front(buf: &mut [u8], from: usize, to: usize) -> usize
 }
 
 // As many bytes as there are, behind the first so many; none at the end of the input.
-fn read_more(buf: &mut [u8], at: usize) -> usize
+fn read_more(mut input: Stdin, buf: &mut [u8], at: usize) -> usize
     requires { at ≤ length buf.old }
     ensures { Fills buf.old at result buf.new }
 {
-    let rest = &mut buf[at..];
-    let got = libc::read(0, rest);
-    io::count(got, rest)
+    input.read(&mut buf[at..]).unwrap_or(0)
 }
 
 // To the end of a line of which the first so many bytes of the buffer are a part. The turns are counted down, from a number that no run
 // uses up: a proved loop has to end.
-fn skip_from(buf: &mut [u8], part: usize) -> Held
+fn skip_from(input: Stdin, buf: &mut [u8], part: usize) -> Held
     requires { part ≤ length buf.old }
     ensures { (length buf.new ≡ length buf.old) × Within buf.new result.from result.to }
 {
@@ -92,7 +92,7 @@ fn skip_from(buf: &mut [u8], part: usize) -> Held
                 to: got,
             };
         }
-        got = read_more(buf, 0);
+        got = read_more(input, buf, 0);
         if got == 0 {
             return Held { from: 0, to: 0 };
         }
@@ -102,28 +102,28 @@ fn skip_from(buf: &mut [u8], part: usize) -> Held
 }
 
 // A line that has filled the buffer is too long, unless the input ends with it.
-fn skip_line(buf: &mut [u8]) -> Next
+fn skip_line(input: Stdin, buf: &mut [u8]) -> Next
     ensures { (length buf.new ≡ length buf.old) × Skipped result.line result.held buf.new }
 {
-    let got = read_more(buf, 0);
+    let got = read_more(input, buf, 0);
     if got == 0 {
         let line = Line::Cut;
         let held = Held { from: 0, to: 0 };
         return Next { line, held };
     }
-    let held = skip_from(buf, got);
+    let held = skip_from(input, buf, got);
     let line = Line::TooLong;
     Next { line, held }
 }
 
 // The line that starts at the front, where the first so many bytes of it have come.
-fn fill_line(buf: &mut [u8], kept: usize) -> Next
+fn fill_line(input: Stdin, buf: &mut [u8], kept: usize) -> Next
     requires { Unended buf.old kept }
     ensures { Filled buf.old kept result.line result.held buf.new }
 {
     let mut have = kept;
     while have < buf.len() {
-        let got = read_more(buf, have);
+        let got = read_more(input, buf, have);
         if got == 0 {
             let line = if have == 0 { Line::End } else { Line::Cut };
             let held = Held { from: 0, to: 0 };
@@ -138,11 +138,11 @@ fn fill_line(buf: &mut [u8], kept: usize) -> Next
         }
         have = to;
     }
-    skip_line(buf)
+    skip_line(input, buf)
 }
 
 // The next line. Where its newline is held nothing is read.
-pub fn next_line(buf: &mut [u8], held: Held) -> Next
+pub fn next_line(input: Stdin, buf: &mut [u8], held: Held) -> Next
     requires { Within buf.old held.from held.to }
     ensures { NextIs buf.old held result.line result.held buf.new }
 {
@@ -155,5 +155,5 @@ pub fn next_line(buf: &mut [u8], held: Held) -> Next
         return Next { line, held };
     }
     let kept = move_front(buf, from, to);
-    fill_line(buf, kept)
+    fill_line(input, buf, kept)
 }

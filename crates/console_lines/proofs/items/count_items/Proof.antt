@@ -20,7 +20,7 @@ loop-again : tie.Need-loop-i-preserved invariant-loop-i decreases-loop-i
 loop-again c =
     let turn = c.before.before in
     let more = counted_more _ _ turn.before.loop-i.i turn.loop-i-test.true turn.before.loop-i.invariant in
-    ⊎_elim (λ w. more.0 (eq-eqb _ _ w.0.true) w.1) (λ w. more.1 (ne_eqb _ _ w.0.false) w.1) c.if-line-i-eq32.branch
+    ⊎_elim (λ w. more.0 (eq-eqb _ _ w.if-line-i-eq32.true) w.spaces-is) (λ w. more.1 (ne_eqb _ _ w.if-line-i-eq32.false) w.spaces-is) c.if-line-i-eq32.branch-raw
 
 returns : tie.Need-returns invariant-loop-i decreases-loop-i
 unfolding items

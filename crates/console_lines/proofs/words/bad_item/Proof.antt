@@ -41,7 +41,7 @@ returns : tie.Need-returns-then-not-item_keeps invariant-loop-j decreases-loop-j
 unfolding bad_item
 returns c =
     let turn = c.before.before in
-    first_here _ _ _ turn.loop-j-test.true turn.before.loop-j.invariant.0 (sym (tested c.before) ∙ c.if-not-item_keeps.true)
+    first_here _ _ _ turn.loop-j-test.true turn.before.loop-j.invariant.0 (sym (tested c.before) ∙ ap not c.if-not-item_keeps.true)
 
 add-place : tie.Need-overflow_add-place invariant-loop-j decreases-loop-j
 add-place c =
@@ -54,7 +54,7 @@ loop-again : tie.Need-loop-j-preserved invariant-loop-j decreases-loop-j
 loop-again c =
     let turn = c.before.before.before in
     let loop = turn.before.loop-j in (
-      first_more _ _ _ turn.loop-j-test.true loop.invariant.0 (sym (tested c.before.before) ∙ c.before.if-not-item_keeps.false),
+      first_more _ _ _ turn.loop-j-test.true loop.invariant.0 (sym (tested c.before.before) ∙ ap not c.before.if-not-item_keeps.false),
       ap (λ n. n + 1) (c.item_end-place.ensures ∙ ap (item_end (start turn).args.line.now) loop.invariant.1) ∙ sym (item_place_more _ _),
     )
 
