@@ -96,14 +96,14 @@ value_plus w [] ds x = value-map w ds x ∙ sym (zero-add _)
 value_plus w (c ∷ cs) [] x = omega (arith, mul-zero w)
 value_plus w (c ∷ cs) (d ∷ ds) x = ap (λ t. c + w * d + x * t) (value_plus w cs ds x) ∙ omega arith
 
-get_d_map : (w : ℕ) (ds : List ℕ) (j : ℕ) → get_or (map (λ d. w * d) ds) j 0 ≡ w * get_or ds j 0
-get_d_map w [] j = sym (mul-zero w)
-get_d_map w (d ∷ ds) zero = refl
-get_d_map w (d ∷ ds) (suc j) = get_d_map w ds j
+get_or-map : (w : ℕ) (ds : List ℕ) (j : ℕ) → get_or (map (λ d. w * d) ds) j 0 ≡ w * get_or ds j 0
+get_or-map w [] j = sym (mul-zero w)
+get_or-map w (d ∷ ds) zero = refl
+get_or-map w (d ∷ ds) (suc j) = get_or-map w ds j
 
 get_or_plus : (w : ℕ) (cs ds : List ℕ) (j : ℕ) → get_or (plus w cs ds) j 0 ≡ get_or cs j 0 + w * get_or ds j 0
 unfolding plus
-get_or_plus w [] ds j = get_d_map w ds j ∙ sym (zero-add _)
+get_or_plus w [] ds j = get_or-map w ds j ∙ sym (zero-add _)
 get_or_plus w (c ∷ cs) [] j = omega (arith, mul-zero w)
 get_or_plus w (c ∷ cs) (d ∷ ds) zero = refl
 get_or_plus w (c ∷ cs) (d ∷ ds) (suc j) = get_or_plus w cs ds j
