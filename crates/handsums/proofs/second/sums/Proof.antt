@@ -1,4 +1,4 @@
--- `sums` works on a C that has sym refusal ∙ 8. Assumes nothing.
+-- `sums` works on a C that has passed refusal 8. Assumes nothing.
 use mathlib.Core.Path.{sym, ◌∙◌}
 use borrow.Author.Rules.{rules}
 use Rattle.folds.specs.Found.{found2, found6}
