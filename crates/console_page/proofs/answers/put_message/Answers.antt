@@ -5,14 +5,12 @@ use mathlib.Core.Path.{◌≡◌, refl}
 use Prim.Native.Nat.{ℕ, ◌+◌, ◌*◌}
 use lib.ListN.{get_or}
 use lib.Seq.{sets}
-use borrow.Author.Rules.{rules}
 use Rattle.folds.specs.Runs.{length-gather}
 use Rattle.rules.specs.Text.{text, decimal}
 use Rattle.text.specs.Puts.{Puts, puts_room, puts_then, puts_then_word}
 use Rattle.text.specs.Hexadecimal.{hex_pair, hex_of}
 use Rattle.console_page.specs.Answers.{message_line}
-use Rattle.console_page.proofs.answers.put_message.Statement.{statement}
-use Rattle.console_page.proofs.answers.put_message.Tie as tie
+use Rattle.console_page.proofs.answers.put_message.Goals as goal
 
 -- two digits a byte
 hex-put : (page : List ℕ) (at : ℕ) (b : List ℕ) (i n : ℕ) {next : ℕ} {page' : List ℕ} → (next ≡ at + 2 * n) × (page' ≡ sets page at (hex_of b i n))
@@ -23,30 +21,17 @@ hex-put page at b i n h =
     let l = length-gather (λ (j : ℕ). hex_pair (get_or b (i + j) 0)) 2 (λ j. refl) n in
     (omega arith, omega arith, h.1)
 
-returns : tie.Need-returns
+pub returns : goal.returns
 unfolding message_line text
 returns c =
-    let fourth = c.before.before in
-    let third = fourth.before.before.before.before.before in
-    let second = third.before.before.before.before in
-    let first = second.before.before.before.before.before in
-    let given = first.before.before.before.before.before.args in
-    let page = given.page-1.now in
-    let at = given.at in
-    let size = given.size in
-    let a = text "to " ++ decimal given.j in
-    let hex = hex_of given.buffer.now given.from size in
+    let page = c.args.page.now in
+    let at = c.args.at in
+    let size = c.args.size in
+    let a = text "to " ++ decimal c.args.j in
+    let hex = hex_of c.args.buffer.now c.args.from size in
     puts_room page at (a ++ text " " ++ hex ++ text "\n") (9 + 2 * size + 1) (10 + 2 * size) (omega arith)
     (puts_then_word page at (a ++ text " " ++ hex) (text "\n") (9 + 2 * size)
     (puts_then page at (a ++ text " ") hex 9 (2 * size)
-    (puts_then_word page at a (text " ") 8 first.put_numbered-next.ensures second.put_word-next.ensures)
-    (hex-put _ _ given.buffer.now given.from size third.put_hex-next.ensures))
-    fourth.put_word.ensures)
-
-pub put_message_spec : {M : Type 1} → statement M
-put_message_spec =
-    tie.close
-    (tie.spec
-    (λ c. search rules) (λ c κs. search rules) (λ c. search rules) (λ c κs. search rules) (λ c κs. search rules)
-    (λ c. search rules) (λ c κs. search rules) (λ c. search rules)
-    returns)
+    (puts_then_word page at a (text " ") 8 c.put_numbered-next.ensures c.put_word-next.ensures)
+    (hex-put _ _ c.args.buffer.now c.args.from size c.put_hex-next.ensures))
+    c.put_word.ensures)
