@@ -14,7 +14,7 @@ start c = c.before.before.before.before
 
 -- no row before the hearing holds
 none-early : (c : tie.Else-early-ne0)
-    → let a = (start c).args in first_of (early_rows a.x a.sender a.bytes.now (length a.out-1.now)) ≡ 0
+    → let a = (start c).args in first_of (early_rows a.x a.sender a.bytes.now (length a.out.now)) ≡ 0
 none-early c = sym c.before.early-early.ensures ∙ c.if-early-ne0.false
 
 refuses-early : tie.Need-returns-then-early-ne0

@@ -7,7 +7,7 @@ use Rattle.rules.specs.Matrices.{to_boxes}
 use Rattle.rules.specs.Messages.{send}
 use Rattle.rules.specs.Dealing.{f_of, f'_of, commitment, polynomials_of}
 use Rattle.rules.specs.Record.{group_in}
-use Rattle.rules.specs.Steps.{deal_step, sending}
+use Rattle.rules.specs.Steps.{deal_step}
 use Rattle.rules.specs.Laws.Matrices.{square_small}
 use Rattle.rules.specs.Laws.Numbers.{Ranges}
 use Rattle.rules.specs.Laws.Sound.{sound_ranges}

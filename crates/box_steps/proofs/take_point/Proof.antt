@@ -19,11 +19,11 @@ within c =
     let a = start.args in
     let here = start.requires.0.here in
     rw c.slot_for-s.ensures
-    (room a.t2 a.m a.c here.is_sound here.sender a.side (side_hears a.side a.t2 a.m start.requires.1)).within
+    (room a.x a.m a.c here.is_sound here.sender a.side (side_hears a.side a.x a.m start.requires.1)).within
 
 -- the record with the sender heard
 abbrev marked : tie.Start → Record
-marked c = heard c.args.t2 (side_tag c.args.side) c.args.m
+marked c = heard c.args.x (side_tag c.args.side) c.args.m
 
 abbrev found : tie.After-with_point-fresh → tie.After-slot_for-s
 found c = c.before.before.before
@@ -39,7 +39,7 @@ unfolding heard
 goes c =
     let a = (start c).args in
     point_at_lem a.side (marked (start c)) a.m a.c a.four
-    ((found c).slot_for-s.ensures ∙ heard_slot a.t2 (side_tag a.side) a.m a.c)
+    ((found c).slot_for-s.ensures ∙ heard_slot a.x (side_tag a.side) a.m a.c)
     (c.with_point-fresh.ensures ∙ ap (λ slot. taken a.side slot a.m a.four) c.before.opened_for-open.ensures)
 
 sends : tie.Need-returns-then-ready_due

@@ -6,7 +6,7 @@ use Rattle.rules.specs.declared.Sent.TheVariants.{Echo}
 use Rattle.rules.specs.declared.Side.TheVariants.{ByEcho}
 use Rattle.rules.specs.Matrices.{to_boxes, zero_four}
 use Rattle.rules.specs.Messages.{saying}
-use Rattle.rules.specs.Steps.{heard, echo_four, send_step, sending}
+use Rattle.rules.specs.Steps.{heard, echo_four, send_step}
 use Rattle.box_steps.specs.Laws.{tells, ranges, place, group_ranges, can_send, each_written}
 use Rattle.box_steps.proofs.take_send.Statement.{statement}
 use Rattle.box_steps.proofs.take_send.Tie as tie

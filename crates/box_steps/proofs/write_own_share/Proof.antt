@@ -10,42 +10,33 @@ use Rattle.box_steps.specs.Laws.{can_send}
 use Rattle.box_steps.proofs.write_own_share.Statement.{statement}
 use Rattle.box_steps.proofs.write_own_share.Tie as tie
 
-abbrev start : tie.In-With-2 → tie.Start
-start c = c.before.before.before.before.before
-
 -- the completed slot is one of the twenty
 within : tie.Need-bounds-x-s
-within c =
-    let s = start c.before in
-    ((sound_facts s.args.t2 s.requires.called.is_sound).progress-1.completion _ c.before.completion-1.given.1).within
+within c = ((sound_facts c.args.x c.requires.called.is_sound).progress.completion _ c.in-With.is).within
 
 not_yet : tie.Need-returns-in-NotYet
 unfolding written
 not_yet c =
-    let a = c.before.before.before.before.before.args in
-    let none = ap (λ d. share_bytes a.t2.setup (completed_share a.t2 d)) c.enum_told-1.given.1 in
-    record { counted = ap length (sym none); front = ap (λ b. written b a.out-1.now) (sym none) }
+    let a = c.args in
+    let none = ap (λ d. share_bytes a.x.setup (completed_share a.x d)) c.in-NotYet.is in
+    record { counted = ap length (sym none); front = ap (λ b. written b a.out.now) (sym none) }
 
 absent : tie.Need-returns-in-Absent
 unfolding written
 absent c =
-    let known = c.before.before.before.before.before in
-    let a = (start known).args in
+    let a = c.args in
     let none =
-    ap (λ d. share_bytes a.t2.setup (completed_share a.t2 d)) known.completion-1.given.1
-    ∙ ap (share_bytes a.t2.setup) c.enum_told-in-Absent-1.given.1 in
-    record { counted = ap length (sym none); front = ap (λ b. written b a.out-1.now) (sym none) }
+    ap (λ d. share_bytes a.x.setup (completed_share a.x d)) c.in-With.is
+    ∙ ap (share_bytes a.x.setup) c.in-Absent.is in
+    record { counted = ap length (sym none); front = ap (λ b. written b a.out.now) (sym none) }
 
 there : tie.Need-returns-in-There
 there c =
-    let wrote = c.before.before in
-    let held = wrote.before.before.before in
-    let known = held.before.before.before.before.before in
-    let a = (start known).args in
+    let a = c.args in
     let bytes =
-    ap (λ d. share_bytes a.t2.setup (completed_share a.t2 d)) known.completion-1.given.1
-    ∙ ap (share_bytes a.t2.setup) held.kept-1.given.1 in
-    rw (sym bytes) at wrote.write_shares.ensures
+    ap (λ d. share_bytes a.x.setup (completed_share a.x d)) c.in-With.is
+    ∙ ap (share_bytes a.x.setup) c.in-There.is in
+    rw (sym bytes) at c.write_shares.ensures
 
 pub write_own_share_spec : {M : Type 1} → statement M
 write_own_share_spec =
@@ -57,8 +48,7 @@ write_own_share_spec =
     within
     (λ c. search rules)
     (λ c. search rules)
-    (λ c κs. let pre = (start c.before.before.before.before.before.before.before).requires in
-    can_send (sound_ranges _ pre.called.is_sound) pre.called.room)
+    (λ c κs. let called = c.requires.called in can_send (sound_ranges _ called.is_sound) called.room)
     not_yet
     absent
     (λ c. search rules)

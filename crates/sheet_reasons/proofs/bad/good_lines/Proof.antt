@@ -29,12 +29,12 @@ returns : tie.Need-returns-then-not-front_keeps invariant-loop-m decreases-loop-
 unfolding good_lines
 returns c =
     let turn = c.before.before in
-    first_here _ _ _ turn.loop-m-test.true turn.before.loop-m.invariant (ap not (sym c.before.front_keeps.ensures) ∙ c.if-not-front_keeps.true)
+    first_here _ _ _ turn.loop-m-test.true turn.before.loop-m.invariant (ap not (sym c.before.front_keeps.ensures ∙ c.if-not-front_keeps.true))
 
 loop-again : tie.Need-loop-m-preserved invariant-loop-m decreases-loop-m
 loop-again c =
     let turn = c.before.before in
-    first_more _ _ _ turn.loop-m-test.true turn.before.loop-m.invariant (ap not (sym c.before.front_keeps.ensures) ∙ c.if-not-front_keeps.false)
+    first_more _ _ _ turn.loop-m-test.true turn.before.loop-m.invariant (ap not (sym c.before.front_keeps.ensures ∙ c.if-not-front_keeps.false))
 
 returns-2 : tie.Need-returns invariant-loop-m decreases-loop-m
 unfolding good_lines

@@ -46,7 +46,7 @@ loop-again c =
     let turn = c.before.before in
     let next = counted_more _ _ _ turn.loop-j-test.true turn.before.loop-j.invariant in
     let test = sym c.before.byte_at.ensures in
-    ⊎_elim (λ w. next.0 (test ∙ w.0.true) w.1) (λ w. next.1 (test ∙ w.0.false) w.1) c.if-byte_at.branch
+    ⊎_elim (λ w. next.0 (test ∙ w.if-byte_at.true) w.spaces-is) (λ w. next.1 (test ∙ w.if-byte_at.false) w.spaces-is) c.if-byte_at.branch-raw
 
 returns-2 : tie.Need-returns invariant-loop-j decreases-loop-j
 unfolding spaces_in
@@ -62,7 +62,6 @@ spaces_in_spec =
     (tie.spec
     invariant-loop-j
     decreases-loop-j
-    (λ c. search rules)
     (λ c κs. search rules)
     returns
     (λ c. search rules)

@@ -41,7 +41,7 @@ returns : tie.Need-returns invariant-loop-m decreases-loop-m
 unfolding box_lines
 returns c =
     let given = c.before.before.before.args in
-    puts_room given.page-1.now 0 (gather given.n (line_of given.group given.k given.c given.t6)) (given.n * 20) 200 (omega arith)
+    puts_room given.page.now 0 (gather given.n (line_of given.group given.k given.c given.shares)) (given.n * 20) 200 (omega arith)
     (runs_all c.before.loop-m.invariant.0 c.loop-m-test.false)
 
 pub put_box_lines_spec : {M : Type 1} → statement M

@@ -17,10 +17,10 @@ abbrev number_of : List ℕ → ℕ → List ℕ
 number_of boxes i = text " " ++ decimal (get_or boxes i 0)
 
 abbrev invariant-loop-j : tie.invariant-loop-j
-invariant-loop-j page₀ at count boxes next₀ j₀ space page next j = PutRuns (number_of boxes) 6 count at page₀ page next j
+invariant-loop-j page₀ at count boxes next₀ j₀ page next j = PutRuns (number_of boxes) 6 count at page₀ page next j
 
 abbrev decreases-loop-j : tie.decreases-loop-j
-decreases-loop-j page₀ at count boxes next₀ j₀ space page next j = count - j
+decreases-loop-j page₀ at count boxes next₀ j₀ page next j = count - j
 
 loop-again : tie.Need-loop-j-preserved invariant-loop-j decreases-loop-j
 unfolding text
@@ -33,7 +33,7 @@ returns : tie.Need-returns invariant-loop-j decreases-loop-j
 unfolding boxes_text
 returns c =
     let given = c.before.before.before.args in
-    puts_room given.page-1.now given.at (gather given.count (number_of given.t4)) (given.count * 6) 48 (omega arith)
+    puts_room given.page.now given.at (gather given.count (number_of given.boxes)) (given.count * 6) 48 (omega arith)
     (runs_all c.before.loop-j.invariant c.loop-j-test.false)
 
 pub put_boxes_spec : {M : Type 1} → statement M
@@ -43,7 +43,7 @@ put_boxes_spec =
     invariant-loop-j
     decreases-loop-j
     (λ c. runs_none _ 6 _ _ _)
-    (λ c. search rules) (λ c. search rules) (λ c. search rules) (λ c κs. search rules) (λ c. search rules)
+    (λ c. search rules) (λ c. search rules) (λ c κs. search rules) (λ c. search rules)
     (λ c. search rules)
     loop-again
     (λ c. c.before.loop-j.invariant.same)

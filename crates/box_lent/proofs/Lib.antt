@@ -1,2 +1,0 @@
--- The machine values of a record, an answer and an outcome, for walks over them.
-pub mod Values
