@@ -16,7 +16,8 @@ fn written(page: &[u8]) -> bool {
 }
 
 // The turns are counted down, from a number that no run uses up: a proved loop has to end.
-fn main() {
+fn main(rt: HostRuntime) {
+    let input = rt.stdin();
     let mut space = [0u8; 8192];
     let mut page = [0u8; 16384];
     let mut bench = calls::new_bench();
@@ -24,7 +25,7 @@ fn main() {
     let mut turns = u64::MAX;
     while turns > 0 {
         turns -= 1;
-        let next = lines::next_line(&mut space, held);
+        let next = lines::next_line(input, &mut space, held);
         held = next.held;
         let line = next.line;
         let turn = calls::take(bench, line, &space, &mut page);

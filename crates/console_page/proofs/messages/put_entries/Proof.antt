@@ -29,7 +29,7 @@ returns : tie.Need-returns invariant-loop-j decreases-loop-j
 unfolding entries_text
 returns c =
     let given = c.before.before.before.args in
-    puts_room given.page-1.now given.at (entries_text given.k given.t4) (given.k * 48) 384 (omega arith)
+    puts_room given.page.now given.at (entries_text given.k given.c) (given.k * 48) 384 (omega arith)
     (runs_all c.before.loop-j.invariant c.loop-j-test.false)
 
 pub put_entries_spec : {M : Type 1} → statement M

@@ -27,9 +27,9 @@ loop-again c =
     let inv = loop.invariant in (
       runs_more inv.0 (omega arith)
           (⊎_elim
-          (λ w. digit_put _ loop.j loop.next loop.page inv.1 w.0.true w.1 w.2)
-          (λ w. digit_skip _ loop.j loop.next loop.page inv.1 w.0.false w.1 w.2)
-          c.if-power-x.branch),
+          (λ w. digit_put _ loop.j loop.next loop.page inv.1 w.if-power-x.true w.page-is w.next-is)
+          (λ w. digit_skip _ loop.j loop.next loop.page inv.1 w.if-power-x.false w.page-is w.next-is)
+          c.if-power-x.branch-raw),
       power_next loop.j (omega arith) inv.1,
     )
 

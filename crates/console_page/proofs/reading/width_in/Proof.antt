@@ -32,12 +32,12 @@ tested c =
 returns : tie.Need-returns-then-not-is_malformed invariant-loop-k decreases-loop-k
 returns c =
     let turn = c.before.before.before in
-    sym (first_from_here _ _ _ turn.loop-k-test.true (tested c.before ∙ c.if-not-is_malformed.true)) ∙ turn.before.loop-k.invariant.1
+    sym (first_from_here _ _ _ turn.loop-k-test.true (tested c.before ∙ ap not c.if-not-is_malformed.true)) ∙ turn.before.loop-k.invariant.1
 
 loop-again : tie.Need-loop-k-preserved invariant-loop-k decreases-loop-k
 loop-again c =
     let turn = c.before.before.before in
-    (omega arith, sym (first_from_skip _ _ _ turn.loop-k-test.true (tested c.before ∙ c.if-not-is_malformed.false)) ∙ turn.before.loop-k.invariant.1)
+    (omega arith, sym (first_from_skip _ _ _ turn.loop-k-test.true (tested c.before ∙ ap not c.if-not-is_malformed.false)) ∙ turn.before.loop-k.invariant.1)
 
 pub width_in_spec : {M : Type 1} → statement M
 width_in_spec =

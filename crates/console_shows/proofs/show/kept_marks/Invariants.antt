@@ -1,0 +1,17 @@
+-- `kept_marks` marks the boxes whose recovery share is kept. The loop's invariant: the first m marks are stored. Assumes nothing.
+use mathlib.Core.Bool.{Bool}
+use Prim.Native.Nat.{◌-◌}
+use lib.ListN.{get_or}
+use Rattle.folds.specs.Loops.{Filling}
+use Rattle.rules.specs.declared.Keep.{Keep}
+use Rattle.rules.specs.Record.{nothing, is_there}
+use Rattle.console_shows.proofs.show.kept_marks.Given as goal
+
+abbrev pub keeps : Keep → Bool
+keeps keep = is_there keep.kept
+
+abbrev pub invariant-loop-m : goal.invariant-loop-m
+invariant-loop-m l = Filling (λ i. keeps (get_or l.shares i nothing)) l.initial.at 10 l.m l.at
+
+abbrev pub decreases-loop-m : goal.decreases-loop-m
+decreases-loop-m l = 10 - l.m
