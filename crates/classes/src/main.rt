@@ -2,7 +2,7 @@
 #![tactic(auto)]
 
 mod by_hand;
-mod coins;
+mod class_coins;
 mod moves;
 mod of_ten;
 mod room;

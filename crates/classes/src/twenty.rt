@@ -3,7 +3,7 @@
 // m = v - 10 above.
 ghost use Rattle.std.specs.Prelude.{◌≤◌, ◌<◌, length};
 
-use crate::coins::rising;
+use crate::class_coins::rising;
 use crate::moves;
 use crate::moves::Move;
 use rules::{Record, SetUp};
