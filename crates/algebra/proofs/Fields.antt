@@ -6,8 +6,8 @@ use Rattle.std.proofs.Math.Path.{refl, ap}
 use Rattle.std.proofs.Common.{sym, ◌∙◌, ⊎_elim, mod-eq_of_lt, zero-add, add_comm, mul_comm, mul_right_comm, one-mul, le_of_lt, add-zero, arith, ltb-true, ltb-false, lt-ltb, le-ltb}
 use Prim.Native.Nat.{ℕ, zero, suc, ◌+◌, ◌*◌, ◌-◌, ◌/◌, ◌%◌, ◌≤◌, ◌<◌}
 use Rattle.std.proofs.Math.Nat.{mod-lt, mul-mod_right, div-eq_of_lt, mul-add-div_right, mul-add-mod_self_right}
-use Rattle.folds.specs.Tests.{◌and◌, decide}
-use Rattle.algebra.specs.Residues.{primeb, inverse_by, inverse, Prime}
+use Rattle.folds.specs.Tests.{decide}
+use Rattle.algebra.specs.Residues.{inverse_by, inverse, Prime}
 use Rattle.algebra.proofs.Residues.{mod-mul-mod, mul-mod-mod, mods, add_cong, zero-mul-mod, one-mul-mod}
 use Rattle.algebra.proofs.Inverses.{next}
 

@@ -7,7 +7,7 @@
 -- Assumes nothing.
 use Rattle.std.specs.Prelude.{◌≡◌, ◌≢◌, Bool, List, length, get_or}
 use Rattle.std.proofs.Math.Path.{refl, sym, ap, ap₂}
-use Rattle.std.proofs.Common.{subst, ◌∙◌, one-mul, zero-mul, mul_assoc, mul_comm, le_refl, le_of_lt, not-suc-le-zero}
+use Rattle.std.proofs.Common.{subst, ◌∙◌, one-mul, zero-mul, mul_assoc, mul_comm, le_refl, le_of_lt}
 use Rattle.std.proofs.Math.Bool.{true, false}
 use Prim.Native.Nat.{ℕ, zero, suc, ◌+◌, ◌*◌, ◌-◌, ◌%◌, ◌^◌, ◌≤◌, ◌<◌}
 use Rattle.std.proofs.Math.Nat.{mod-lt, mod-eq_of_lt, mod-mod, mod_self, zero-mod}
@@ -16,13 +16,13 @@ use native.Mathlib.Omega.{arith}
 use Rattle.std.proofs.Math.Dec.{eqb}
 use borrow.Author.Tests.{eqb-false, eq-eqb, ne_eqb}
 use Rattle.folds.specs.Tests.{pick, pick_true, pick-false}
-use Rattle.folds.specs.Below.{sum_below, prod_below, sum_below_same, prod_below_same}
+use Rattle.folds.specs.Below.{sum_below, prod_below, sum_below_same}
 use Rattle.algebra.proofs.Residues.{mod-mul-mod, mul-mod-mod, add_cong, mul_cong, zero-mul-mod, one-mul-mod, difference_some}
 use Rattle.algebra.specs.Residues.{Prime, inverse}
 use Rattle.algebra.proofs.Fields.{inverse_right}
 use Rattle.algebra.proofs.Sums.{sum-add, sum_scale, sum_cong, sum_single, prod_none, prod_some}
 use Rattle.algebra.specs.Polynomials.{value, coefficients, Places}
-use Rattle.algebra.proofs.Polynomials.{length-coefficients, get_or-coefficients, value-sum, value_reduce, Polynomial, constant, nothing, polynomial_plus, polynomial_widen, polynomial_one, polynomial_more, agree, only_one}
+use Rattle.algebra.proofs.Polynomials.{length-coefficients, get_or-coefficients, value-sum, value_reduce, Polynomial, nothing, polynomial_plus, agree, only_one}
 use Rattle.algebra.specs.Interpolation.{others, interpolate, weight}
 use Rattle.algebra.proofs.Factors.{factor, others_same, basis}
 

@@ -6,16 +6,11 @@
 -- inverse's steps, as code takes them, and 1 - x / x; numbers k to a row.
 -- Not here: `mod-add-mod`, `add-mod-mod`, `mod-mod`, `mod-lt`, `mod-eq_of_lt` (`native.Mathlib.Nat`).
 -- Assumes nothing.
-use Rattle.std.specs.Prelude.{◌≡◌, ◌≢◌, Bool, true, false, not, ltb, eqb}
+use Rattle.std.specs.Prelude.{◌≡◌, ◌≢◌}
 use Rattle.std.proofs.Math.Path.{refl, ap}
-use Rattle.std.proofs.Common.{sym, ap₂, ◌∙◌, ⊎_elim, div-le_self, mod-eq_of_lt, zero-add, add_comm, mul_comm, mul_right_comm, one-mul, zero-mul, le_of_lt, add-zero, add-mul, arith, ltb-true, ltb-false, lt-ltb, le-ltb}
-use Prim.Native.Nat.{ℕ, zero, suc, ◌+◌, ◌*◌, ◌-◌, ◌/◌, ◌%◌, ◌≤◌, ◌<◌}
-use Rattle.std.proofs.Math.Nat
-use Rattle.std.proofs.Math.Nat.{add-mul-mod_self_right, mod-add-div', div-add-mod, mod-lt, mod-add-mod, add-mod-mod, add-mod, add-mod_right, mod-mod, zero-mod, mul-mod_left, mul-mod_right, div-eq_of_lt, mul-add-div_right, mul-add-mod_self_right}
-use Rattle.std.proofs.lemmas.Bool.{eqb-false, not-true}
-use Rattle.folds.specs.Tests.{◌and◌, pick, decide, and_left, and_right}
-use Rattle.folds.specs.Below.{all_below, all_below_at}
-use Rattle.algebra.specs.Residues.{primeb, inverse_by, inverse, Prime}
+use Rattle.std.proofs.Common.{sym, ap₂, ◌∙◌, mod-eq_of_lt, zero-add, add_comm, mul_comm, one-mul, zero-mul, add-mul, arith}
+use Prim.Native.Nat.{ℕ, ◌+◌, ◌*◌, ◌-◌, ◌/◌, ◌%◌, ◌<◌}
+use Rattle.std.proofs.Math.Nat.{add-mul-mod_self_right, mod-add-div', mod-add-mod, add-mod-mod, add-mod, add-mod_right, mod-mod, zero-mod, mul-mod_left}
 
 -- ---- remainders
 

@@ -4,7 +4,6 @@ use Rattle.std.proofs.Math.Dec.{eqb}
 use Rattle.folds.specs.Tests.{pick}
 use Rattle.folds.specs.Below.{sum_below, prod_below}
 use Rattle.algebra.specs.Residues.{inverse}
-use Rattle.algebra.specs.Polynomials.{value}
 
 -- the product of x - x_j over all j below k but i, modulo q
 unfoldable pub others : ℕ → ℕ → (ℕ → ℕ) → ℕ → ℕ → ℕ

@@ -1,7 +1,7 @@
 -- Polynomials with plain numbers for coefficients, lowest first, and places for them. Their laws stand in proofs/Polynomials. Assumes nothing.
 use Rattle.std.specs.Prelude.{◌≢◌}
 use mathlib.Core.List.{[], List, ◌∷◌}
-use Prim.Native.Nat.{ℕ, zero, suc, ◌+◌, ◌*◌, ◌-◌, ◌<◌}
+use Prim.Native.Nat.{ℕ, zero, suc, ◌+◌, ◌*◌, ◌<◌}
 
 -- c_0 + c_1 x + c_2 x² + ..
 unfoldable pub value : List ℕ → ℕ → ℕ

@@ -31,7 +31,7 @@ use Rattle.rules.proofs.Laws.Numbers.{group_sizes}
 use Rattle.rules.proofs.Laws.Matrices.{matrix_same, row_within}
 use Rattle.rules.proofs.Laws.Generator.{logarithm_some, logarithm_below, committed_moves}
 use Rattle.rules.proofs.Laws.Dealing.{f_of_at, f'_of_at, along_y_at, along_x_at, coins_count, coin_low}
-use Rattle.demands.specs.Terms.Dealing.{group, order, Sound, dealt_matrix, dealt_to, none}
+use Rattle.demands.specs.Terms.Dealing.{group, order, Sound, dealt_matrix, dealt_to}
 use Rattle.demands.specs.Sharing.{rule, size}
 use Rattle.demands.specs.Terms.Secrets.{Few, vanishing, z, difference, difference', moved, matching}
 

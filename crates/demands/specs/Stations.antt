@@ -14,7 +14,7 @@ use Rattle.rules.specs.declared.Record.{Record}
 use Rattle.rules.specs.declared.SetUp.{SetUp}
 use Rattle.rules.specs.Answers.{Done, set_up}
 use Rattle.rules.proofs.UselessBoxes.{Station, zeros_are_bytes, Keeps}
-use Rattle.demands.specs.Terms.Histories.{Call, deals, gets, commanded, doing, after, keeps}
+use Rattle.demands.specs.Terms.Histories.{Call, deals, gets, commanded, doing, after}
 use Rattle.demands.specs.Terms.Lives.{checks_by, checks_now, checked, e_of, r_of}
 use Rattle.demands.specs.Lives.{life_sound, e_counts, r_counts}
 use Rattle.demands.specs.Terms.Stations.{doing_by, after_by, checked_by, Sayable, AllSayable}

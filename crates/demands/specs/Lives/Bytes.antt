@@ -17,7 +17,7 @@ use Rattle.rules.specs.Messages.{ready, matrix_in, to_each}
 use Rattle.rules.specs.Record.{slot_at, matrix_of, is_done}
 use Rattle.rules.specs.Steps.{points, ready_four, completed_share, share_bytes}
 use Rattle.rules.specs.Answers.{Done, set_up}
-use Rattle.demands.specs.Terms.Histories.{Call, doing, after, wrote, own}
+use Rattle.demands.specs.Terms.Histories.{Call, doing, after, wrote}
 use Rattle.demands.specs.Terms.Dealing.{order}
 use Rattle.demands.specs.Terms.Lives.{lowest_for, Sends}
 use Rattle.demands.specs.Lives.Slots.{Has, own_is, there_some}

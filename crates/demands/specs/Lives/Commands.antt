@@ -26,7 +26,7 @@ use Rattle.rules.proofs.Laws.Table.{none}
 use Rattle.rules.proofs.Laws.Sound.{facts_sound}
 use Rattle.rules.proofs.Laws.DemandOne.{deal_number, recover_number, outcome_number, answered_accepted}
 use Rattle.rules.proofs.Laws.Lengths.{take-written}
-use Rattle.demands.specs.Terms.Histories.{Call, deals, commanded, doing, after, answers, wrote}
+use Rattle.demands.specs.Terms.Histories.{Call, deals, commanded, doing, after, answers}
 use Rattle.demands.specs.Terms.Dealing.{sends_of}
 use Rattle.demands.specs.Terms.Lives.{is_send, is_recovery, how_many, Writes}
 use Rattle.demands.specs.Lives.Born.{good, own-setup}

@@ -16,13 +16,12 @@ use Rattle.rules.specs.declared.SetUp.{SetUp}
 use Rattle.rules.specs.Record.{new_record}
 use Rattle.rules.specs.Answers.{set_up, first_of, Done, accepted, answered, deal_rows, deal}
 use Rattle.demands.specs.Terms.Honest.{Past}
-use Rattle.demands.specs.Terms.Histories.{Call, doing, after, answers, deals, commanded}
+use Rattle.demands.specs.Terms.Histories.{Call, doing, after, answers, deals}
 use Rattle.demands.specs.Terms.Lives.{is_send, is_recovery, how_many}
 use Rattle.demands.specs.Lives.Stepped.{Once, OwnMarks}
 use Rattle.demands.specs.Lives.Turns.{next, Turn}
 use Rattle.demands.specs.Lives.Born.{born, turn_at}
 use Rattle.rules.specs.Steps.{deal_step}
-use Rattle.rules.proofs.Laws.Table.{past}
 use Rattle.rules.proofs.Laws.DemandOne.{outcome_number, answered_accepted}
 use Rattle.demands.specs.Histories.{past_none, past_cases}
 use Rattle.demands.specs.Lives.Once.{told_up, one_at_most}

@@ -16,7 +16,6 @@ use Rattle.rules.specs.declared.Progress.{Progress}
 use Rattle.rules.specs.declared.Record.{Record}
 use Rattle.rules.specs.declared.Sent.{Sent}
 use Rattle.rules.specs.declared.Sent.TheVariants.{Send, Recovery}
-use Rattle.rules.specs.Messages.{ready}
 use Rattle.rules.specs.Dealing.{matrix_passes, point_check}
 use Rattle.rules.specs.Record.{group_in, slot_at, matrix_of, is_there, shares_kept, same_matrix}
 use Rattle.rules.specs.Steps.{Step, heard, with_progress, sending, recovered_from, share_points, sharing, deal_step, recover_step}
@@ -31,7 +30,7 @@ use Rattle.rules.proofs.Laws.Kept.Changes.{Good, hears_stays}
 use Rattle.demands.specs.Terms.Histories.{Call, deals, commanded, doing}
 use Rattle.demands.specs.Terms.Lives.{checks_now, sender_of, four_of, share_now, pair_of, is_echo, is_ready}
 use Rattle.demands.specs.Lives.Stepped.{JustNow, Stays, as_before, OwnMarks, marks_stay}
-use Rattle.demands.specs.Lives.Took.{Took, took}
+use Rattle.demands.specs.Lives.Took.{Took}
 
 -- ---- after every call
 

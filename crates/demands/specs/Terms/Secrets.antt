@@ -12,7 +12,7 @@ use Rattle.rules.specs.declared.SetUp.{SetUp}
 use Rattle.rules.specs.Numbers.{logarithm}
 use Rattle.rules.specs.Dealing.{coins_keep}
 use Rattle.rules.specs.Record.{slot_at, matrix_of, count_e, count_r}
-use Rattle.demands.specs.Terms.Histories.{commanded, answers, Class, keeps, own, Event, deal_at, hand_on, forge, command_at, calls, record_of, seen}
+use Rattle.demands.specs.Terms.Histories.{answers, Class, keeps, own, Event, deal_at, hand_on, forge, command_at, calls, record_of, seen}
 use Rattle.demands.specs.Terms.Dealing.{group, order}
 
 -- ---- the set

@@ -3,20 +3,17 @@
 -- In order: a deal and a recovery command that are accepted; a delivery that gets a hearing, one that is accepted, and one that
 -- is refused at its hearing and marks its sender heard; the record after a refusal.
 -- Assumes nothing.
-use Rattle.std.specs.Prelude.{◌≡◌, true, List, ◌++◌, ◌≢◌, ℕ, ◌-◌, ◌<◌, ◌≤◌, eqb}
+use Rattle.std.specs.Prelude.{◌≡◌, true, List, ◌++◌, ◌≢◌, ℕ, eqb}
 use Rattle.std.proofs.Math.Path.{refl, ap}
 use Rattle.std.proofs.Common.{◌∙◌, arith}
 use Rattle.std.proofs.Math.Bool.{false, not}
 use borrow.Author.Tests.{le-leb, eq-eqb, eqb-true, ltb-false, not-false, ne_eqb}
 use Rattle.folds.specs.Tests.{◌and◌, and_rest, or_false, false_unless}
 use Rattle.rules.specs.declared.Record.{Record}
-use Rattle.rules.specs.Numbers.{is_box}
-use Rattle.rules.specs.Messages.{tag_in, has_matrix, foreign, matrix_in, message_in}
-use Rattle.rules.specs.Dealing.{matrix_passes, coins_keep}
-use Rattle.rules.specs.Record.{group_in, heard_for, is_done, is_there, sound}
-use Rattle.rules.specs.Answers.{Refusal, first_row, first_of, call_rows, own_deal_rows, deal_rows, own_recover_rows, recover_rows, exponents_keep, checks, form_rows, turn_rows, hearing_tests, hearing_rows, early_rows, deliver_rows, refusal_heard}
+use Rattle.rules.specs.Messages.{tag_in, has_matrix}
+use Rattle.rules.specs.Record.{is_done}
+use Rattle.rules.specs.Answers.{Refusal, first_row, first_of, call_rows, own_deal_rows, deal_rows, own_recover_rows, recover_rows, form_rows, turn_rows, hearing_tests, hearing_rows, early_rows, deliver_rows, refusal_heard}
 use Rattle.rules.proofs.Laws.Numbers.{is_box_lem}
-use Rattle.rules.specs.Laws.RoundTrip.{Formed}
 use Rattle.rules.proofs.Laws.RoundTrip.{formed}
 use Rattle.rules.proofs.Laws.Table.{row, lacks, numbers, first_none, past, both_passed, marks_by, each, marking_by, nobody, marked_behind, first_before, first_behind, first_marks, unmarked}
 use Rattle.rules.specs.Laws.Passed.{Called, DealPassed, RecoverPassed, Hearing, Passed}

@@ -1,7 +1,6 @@
 -- What the numbers of a set-up and of its group keep to, as contracts ask for it. That the tests give it stands in proofs/Laws/Numbers.
 -- Assumes nothing.
 use Rattle.std.specs.Prelude.{◌≡◌, true, ℕ, ◌+◌, ◌*◌, ◌≤◌, ◌<◌}
-use Rattle.folds.specs.Tests.{◌and◌}
 use Rattle.rules.specs.declared.Group.{Group}
 use Rattle.rules.specs.declared.SetUp.{SetUp}
 use Rattle.rules.specs.Numbers.{group_of, group_keeps}

@@ -1,11 +1,11 @@
 -- What a formed message is, and set-up numbers that have room in one, as contracts ask for it. That reading and writing undo one another stands in
 -- proofs/Laws/RoundTrip. Assumes nothing.
-use Rattle.std.specs.Prelude.{not, ◌≡◌}
+use Rattle.std.specs.Prelude.{◌≡◌}
 use mathlib.Core.List.{List}
 use Prim.Native.Nat.{ℕ, ◌-◌, ◌<◌, ◌≤◌}
 use Rattle.std.proofs.Math.ListN.{length, get_or}
 use Rattle.rules.specs.declared.SetUp.{SetUp}
-use Rattle.rules.specs.Messages.{whole_length, word, tag_in, malformed}
+use Rattle.rules.specs.Messages.{whole_length, word, tag_in}
 
 -- the set-up numbers that stand in a message have room there
 pub record SetUpFits (u : SetUp) : Type 0 where

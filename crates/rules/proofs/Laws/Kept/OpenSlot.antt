@@ -20,7 +20,7 @@ use Rattle.rules.specs.declared.Place.{Place}
 use Rattle.rules.specs.declared.Row.{Row}
 use Rattle.rules.specs.declared.Slot.{Slot}
 use Rattle.rules.specs.Numbers.{element, group_of, echo_quorum}
-use Rattle.rules.specs.Matrices.{row, matrix, entry}
+use Rattle.rules.specs.Matrices.{matrix, entry}
 use Rattle.rules.specs.Messages.{matrix_in}
 use Rattle.rules.specs.Dealing.{matrix_passes}
 use Rattle.rules.specs.Record.{silent, marked, place_at, row_at, matrix_of, is_held, count_e, count_r, zero_slot, entries_zero}
