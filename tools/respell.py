@@ -17,6 +17,7 @@ TYPE = re.compile(r"^(?:abbrev |unfoldable )?(?:pub )?(?:record|data|ruleset) ([
 USED = re.compile(r"use ([A-Za-z][\w.]*)\.\{([^}]*)\}")
 ALIAS = re.compile(r"use Rattle\.\w+\.(?:specs\.(?!declared|contracts)|proofs\.[A-Z])(?:[\w.]*\.)?(\w+)(?: as ([^\s;]+))?(?=[\s;]|$)")
 STAYS = r'''"(?:[^"\\]|\\.|\\\n)*"|(?<![\w'-])use [A-Za-z][\w.+]*'''
+LOCAL = re.compile(r"(?!Prim\b)[A-Z]")  # a module that an import of this file brought in
 QUOTED = re.compile(r"`[^`\n]*`")
 FIELD = re.compile(r"^  (?:pub )?([^\s(){}\[\],;\":]+) : ")
 # what std calls its own words, for the dash of a name that joins two
@@ -31,7 +32,7 @@ def snake(word):
         return SPECIAL[word]
     if not word[:1].islower():
         return word
-    return re.sub(r"(?<=[a-z0-9'′])([A-Z]+)(?=[A-Z][a-z]|[^a-zA-Z]|$|[a-z])", lambda m: "_" + m.group(1).lower(), word)
+    return re.sub(r"(?<=[a-zα-ω0-9'′])([A-Z]+)(?=[A-Z][a-z]|[^a-zA-Z]|$|[a-z])", lambda m: "_" + m.group(1).lower(), word)
 
 
 def definitions():
@@ -68,7 +69,7 @@ def foreign():
     words = set()
     for file in list(ROOT.glob("crates/**/*.antt")) + list(ROOT.glob("crates/**/*.rt")):
         for path, names in USED.findall(file.read_text()):
-            if not own.match(path + ("." if not path.endswith("$") else "")) and not own.match(path):
+            if not own.match(path) and (path.startswith("Rattle.") or not LOCAL.match(path)):
                 words |= {n.split(" as ")[0].strip() for n in names.split(",")}
     return words
 
@@ -78,7 +79,7 @@ def renames():
     computed = {snake(w) for w, c in found.items() if c} | set(STD)
     new = {}
     for word in found:
-        if word in kept or not re.search(r"[a-z0-9'′][A-Z]|-", word) and word not in SPECIAL:
+        if word in kept or not re.search(r"[a-zα-ω0-9'′][A-Z]|-", word) and word not in SPECIAL:
             continue
         if "-" not in word and not word[0].islower():
             continue
@@ -145,7 +146,7 @@ def main():
                 clashes.append(f"{file.relative_to(ROOT)}: {w} becomes {here[w]}, which stands there")
         if "--clashes" not in sys.argv:
             if file.suffix == ".rt":  # a name of src/ may be spelled as a lemma of ours
-                here = {w: to for w, to in here.items() if re.search(r"[a-z0-9'′][A-Z]|-", w)}
+                here = {w: to for w, to in here.items() if re.search(r"[a-zα-ω0-9'′][A-Z]|-", w)}
             file.write_text(turned(text, here, fields, "//" if file.suffix == ".rt" else "--"))
     print("\n".join(clashes))
 

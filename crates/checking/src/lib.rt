@@ -6,7 +6,7 @@ ghost use Rattle.std.specs.Prelude.{◌≡◌, ◌+◌, ◌%◌, ◌≤◌, ◌<
 ghost use Rattle.folds.specs.Below.{all_below};
 ghost use Rattle.rules.specs.Numbers.{element};
 ghost use Rattle.rules.specs.Matrices.{row, entry};
-ghost use Rattle.rules.specs.Dealing.{in_group, matrix_passes, coefficients_below, polynomials_below, four_below, pair_below, opens, l_equation, j_equation, polynomial_check, opened_at, αEquation, βEquation, point_check, share_check};
+ghost use Rattle.rules.specs.Dealing.{in_group, matrix_passes, coefficients_below, polynomials_below, four_below, pair_below, opens, l_equation, j_equation, polynomial_check, opened_at, α_equation, β_equation, point_check, share_check};
 ghost use Rattle.checking.specs.Equations.{Checkable, Line, element_at, along_part, along_line, equation};
 
 use rules::{Element, Exponent, Four, Group, Pair, Polynomials};
@@ -236,14 +236,14 @@ fn point_opens(group: Group, k: usize, c: Matrix, x: u16, y: u16, u: Exponent, v
 
 fn alpha_equation(group: Group, k: usize, c: Matrix, i: u16, m: u16, four: Four) -> bool
     requires { Checkable group k c }
-    ensures { result ≡ αEquation group k c i m four }
+    ensures { result ≡ α_equation group k c i m four }
 {
     point_opens(group, k, c, m, i, four.alpha, four.alpha2)
 }
 
 fn beta_equation(group: Group, k: usize, c: Matrix, i: u16, m: u16, four: Four) -> bool
     requires { Checkable group k c }
-    ensures { result ≡ βEquation group k c i m four }
+    ensures { result ≡ β_equation group k c i m four }
 {
     point_opens(group, k, c, i, m, four.beta, four.beta2)
 }

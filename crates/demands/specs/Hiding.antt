@@ -38,7 +38,7 @@ use Rattle.demands.specs.Terms.Secrets.{Few, matching, dealing, played, Uncomman
 use Rattle.demands.specs.Histories.{one_call_at_most}
 use Rattle.demands.specs.Lives.Marks.{unmarked_before}
 use Rattle.demands.specs.Own.{own_taken}
-use Moves.{Twice, numbers, in_set, coins', movedSlot, slot-moved}
+use Moves.{Twice, numbers, in_set, coins', moved_slot, slot-moved}
 use Hypotheses.{Given, zed-on-set}
 use SentTwice.{set-bytes}
 use Steps.{matrix-moved, e-moved, r-moved}
@@ -175,7 +175,7 @@ module _ (t : Twice) (h : Given t) where
       }
     where
       slot : (i s : ℕ) → keeps t.class i ≡ true
-          → slot_at (record_of t.class (second script) i) s ≡ movedSlot t i (slot_at (record_of t.class (first script) i) s)
+          → slot_at (record_of t.class (second script) i) s ≡ moved_slot t i (slot_at (record_of t.class (first script) i) s)
       slot i s k = ap (λ (y : Record). slot_at y s) (linked script u i k).same ∙ slot-moved t i (record_of t.class (first script) i) s
 
 -- ---- the statement

@@ -112,19 +112,19 @@ unfoldable pub opened_at : Group → ℕ → List (List Element) → ℕ → ℕ
 opened_at G k C x y = prod_below k (λ j. prod_below k (λ l. entry C j l ^ (x ^ j * y ^ l))) % G.p
 
 -- "Point check at i, from m: g^α h^α' is the product of C(j,l)^(m^j i^l),
-unfoldable pub αEquation : Group → ℕ → List (List Element) → ℕ → ℕ → Four → Bool
-αEquation G k C i m f = opens G (α f) (α' f) (opened_at G k C m i)
+unfoldable pub α_equation : Group → ℕ → List (List Element) → ℕ → ℕ → Four → Bool
+α_equation G k C i m f = opens G (α f) (α' f) (opened_at G k C m i)
 
 -- and g^β h^β' that of C(j,l)^(i^j m^l)."
-unfoldable pub βEquation : Group → ℕ → List (List Element) → ℕ → ℕ → Four → Bool
-βEquation G k C i m f = opens G (β f) (β' f) (opened_at G k C i m)
+unfoldable pub β_equation : Group → ℕ → List (List Element) → ℕ → ℕ → Four → Bool
+β_equation G k C i m f = opens G (β f) (β' f) (opened_at G k C i m)
 
 unfoldable pub point_check : Group → ℕ → List (List Element) → ℕ → ℕ → Four → Bool
-point_check G k C i m f = αEquation G k C i m f and βEquation G k C i m f
+point_check G k C i m f = α_equation G k C i m f and β_equation G k C i m f
 
 -- "Share check for m: g^σ h^σ' is the product over j of C(j,0)^(m^j)."
-unfoldable pub σEquation : Group → ℕ → List (List Element) → ℕ → Pair → Bool
-σEquation G k C m s = opens G s.first.0 s.second.0 (along_column k C m 0 % G.p)
+unfoldable pub σ_equation : Group → ℕ → List (List Element) → ℕ → Pair → Bool
+σ_equation G k C m s = opens G s.first.0 s.second.0 (along_column k C m 0 % G.p)
 
 unfoldable pub share_check : Group → ℕ → List (List Element) → ℕ → Pair → Bool
-share_check G k C m s = σEquation G k C m s
+share_check G k C m s = σ_equation G k C m s

@@ -21,9 +21,9 @@ use Rattle.box_steps.proofs.recovering.Statement.{statement}
 use Rattle.box_steps.proofs.recovering.Tie as tie
 
 -- there are as many as are kept
-length-sharePoints : (keeps : List Keep) → length (share_points keeps) ≡ shares_kept keeps
+length-share_points : (keeps : List Keep) → length (share_points keeps) ≡ shares_kept keeps
 unfolding share_points shares_kept
-length-sharePoints keeps =
+length-share_points keeps =
     length-gather_count (λ m. kept_at m (share_at keeps m)) (λ m. is_there (share_at keeps m)) (λ m. one m (share_at keeps m)) 10
   where
     one : (m : ℕ) (kept : Kept) → length (kept_at m kept) ≡ pick (is_there kept) 1 0
@@ -32,7 +32,7 @@ length-sharePoints keeps =
 
 -- where k are kept, the first k are all
 all-taken : (keeps : List Keep) (k : ℕ) → shares_kept keeps ≡ k → take k (share_points keeps) ≡ share_points keeps
-all-taken keeps k e = take_all k (share_points keeps) (omega (arith, length-sharePoints keeps))
+all-taken keeps k e = take_all k (share_points keeps) (omega (arith, length-share_points keeps))
 
 recovers : tie.Need-returns-then-count_shares-u
 unfolding made recovering

@@ -23,22 +23,22 @@ use Rattle.checking.proofs.opened_at.Statement.{statement}
 use Rattle.checking.proofs.opened_at.Tie as tie
 
 -- the product of row i
-abbrev rowPart : ℕ → List (List Element) → ℕ → ℕ → ℕ → ℕ
-rowPart k C x y i = along_part k (get_or C i []) (x ^ i) y
+abbrev row_part : ℕ → List (List Element) → ℕ → ℕ → ℕ → ℕ
+row_part k C x y i = along_part k (get_or C i []) (x ^ i) y
 
 -- One more row, with a weight that is the right one modulo q.
 row_more : {G : Group} {k : ℕ} {C : List (List Element)} → Checkable G k C → (x y j : ℕ) {made : ℕ} (power : ℕ) → j < k
-    → made ≡ prod_below j (rowPart k C x y) % G.p → power % G.q ≡ (1 * x ^ j) % G.q
-    → (made * (along_part k (get_or C j []) power y % G.p)) % G.p ≡ prod_below (j + 1) (rowPart k C x y) % G.p
+    → made ≡ prod_below j (row_part k C x y) % G.p → power % G.q ≡ (1 * x ^ j) % G.q
+    → (made * (along_part k (get_or C j []) power y % G.p)) % G.p ≡ prod_below (j + 1) (row_part k C x y) % G.p
 row_more {G} {k} {C} h x y j power hj m e =
     ap₂ (λ s t. (s * t) % G.p) m
     (prod_same G.q G.p k (element_at (get_or C j [])) (row_line h j hj).members (λ l. power * y ^ l) (λ l. x ^ j * y ^ l)
     (λ l hl. mul_cong G.q power (x ^ j) _ _ (e ∙ ap (λ t. t % G.q) (one-mul (x ^ j))) refl))
-    ∙ prod_mod_more_mod G.p (rowPart k C x y) j
+    ∙ prod_mod_more_mod G.p (row_part k C x y) j
 
 abbrev invariant-loop-j : tie.invariant-loop-j
 invariant-loop-j group k x y c p q made₀ power₀ j₀ made power j =
-    (j ≤ k) × (made.0 ≡ prod_below j (rowPart k c x y) % p) × (power.0 % q ≡ (1 * x ^ j) % q)
+    (j ≤ k) × (made.0 ≡ prod_below j (row_part k c x y) % p) × (power.0 % q ≡ (1 * x ^ j) % q)
 
 loop-again : tie.Need-loop-j-preserved invariant-loop-j (λ group k x y c p q made₀ power₀ j₀ made power j. k - j)
 loop-again c =

@@ -1,12 +1,12 @@
 -- `share_check` is the share check: one equation, over column 0. Assumes nothing.
 use borrow.Author.Rules.{rules}
-use Rattle.rules.specs.Dealing.{σEquation, share_check}
+use Rattle.rules.specs.Dealing.{σ_equation, share_check}
 use Rattle.checking.proofs.Lines.{column_line, column_opens}
 use Rattle.checking.proofs.share_check.Statement.{statement}
 use Rattle.checking.proofs.share_check.Tie as tie
 
 pub share_check_spec : {M : Type 1} → statement M
-unfolding σEquation share_check
+unfolding σ_equation share_check
 share_check_spec =
     tie.close
     (tie.spec

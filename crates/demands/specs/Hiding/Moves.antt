@@ -120,8 +120,8 @@ module _ (t : Twice) where
   abbrev pub moved_said : ℕ → Said Four → Said Four
   moved_said i p = record { box = p.box; says = moved_four (zed i * zed p.box) p.says }
 
-  unfoldable pub movedSlot : ℕ → Slot → Slot
-  movedSlot i slot =
+  unfoldable pub moved_slot : ℕ → Slot → Slot
+  moved_slot i slot =
       record {
         used = slot.used;
         rows = slot.rows;
@@ -132,16 +132,16 @@ module _ (t : Twice) where
       }
 
   abbrev pub moved_record : ℕ → Record → Record
-  moved_record i x = with_slots x (map (movedSlot i) x.slots)
+  moved_record i x = with_slots x (map (moved_slot i) x.slots)
 
   -- ---- what stands where
 
-  pub slot-moved : (i : ℕ) (x : Record) (s : ℕ) → slot_at (moved_record i x) s ≡ movedSlot i (slot_at x s)
-  unfolding movedSlot map_from
-  slot-moved i x s = get_or-map (movedSlot i) x.slots s no_slot
+  pub slot-moved : (i : ℕ) (x : Record) (s : ℕ) → slot_at (moved_record i x) s ≡ moved_slot i (slot_at x s)
+  unfolding moved_slot map_from
+  slot-moved i x s = get_or-map (moved_slot i) x.slots s no_slot
 
-  pub place_moved : (i : ℕ) (slot : Slot) (m : ℕ) → place_at (movedSlot i slot) m ≡ moved_place i m (place_at slot m)
-  unfolding movedSlot
+  pub place_moved : (i : ℕ) (slot : Slot) (m : ℕ) → place_at (moved_slot i slot) m ≡ moved_place i m (place_at slot m)
+  unfolding moved_slot
   place_moved i slot m =
       get_or-map_from (moved_place i) silent (λ m. refl) slot.places 0 m ∙ ap (λ (j : ℕ). moved_place i j (place_at slot m)) (zero-add m)
 
@@ -151,11 +151,11 @@ module _ (t : Twice) (i : ℕ) (slot : Slot) where
   point_moved m Silent = refl
   point_moved m (Held f) = refl
 
-  pub points_moved : points (movedSlot t i slot).places ≡ map (moved_said t i) (points slot.places)
+  pub points_moved : points (moved_slot t i slot).places ≡ map (moved_said t i) (points slot.places)
   unfolding points
   points_moved =
       gather-same _ _ 10 (λ m l. ap (λ (p : Place). held_at m p.point) (place_moved t i slot m) ∙ point_moved m (place_at slot m).point)
       ∙ sym (map-gather (moved_said t i) (λ m. held_at m (get_or slot.places m silent).point) 10)
 
-  pub lowest_moved : (k : ℕ) → take k (points (movedSlot t i slot).places) ≡ map (moved_said t i) (take k (points slot.places))
+  pub lowest_moved : (k : ℕ) → take k (points (moved_slot t i slot).places) ≡ map (moved_said t i) (take k (points slot.places))
   lowest_moved k = ap (take k) points_moved ∙ sym (map-take (moved_said t i) k (points slot.places))

@@ -32,7 +32,7 @@ use Rattle.rules.specs.declared.Side.TheVariants.{ByEcho, ByReady}
 use Rattle.rules.proofs.Laws.Kept.OpenSlot.{fresh}
 use Rattle.demands.specs.Terms.Histories.{own}
 use Rattle.demands.specs.Terms.Dealing.{Different}
-use Rattle.demands.specs.Hiding.Moves.{Twice, numbers, q, dealt, zed, moved_four, moved_pair, moved_polynomials, moved_point, moved_place, moved_said, movedSlot, moved_record, slot-moved, place_moved, lowest_moved}
+use Rattle.demands.specs.Hiding.Moves.{Twice, numbers, q, dealt, zed, moved_four, moved_pair, moved_polynomials, moved_point, moved_place, moved_said, moved_slot, moved_record, slot-moved, place_moved, lowest_moved}
 use Rattle.demands.specs.Hiding.Hypotheses.{Given, q_some}
 use Rattle.demands.specs.Hiding.Values.{echo_moved, ready_moved, pair_moved}
 use Rattle.demands.specs.Hiding.SentTwice.{Twin}
@@ -57,25 +57,25 @@ quiet_moved t i x = record { after = refl; sent = refl; completed = refl; recove
 -- ---- parts of a moved record
 
 module _ (t : Twice) (i : ℕ) where
-  pub matrix-moved : (slot : Slot) → matrix_of (movedSlot t i slot) ≡ matrix_of slot
-  unfolding matrix_of movedSlot
+  pub matrix-moved : (slot : Slot) → matrix_of (moved_slot t i slot) ≡ matrix_of slot
+  unfolding matrix_of moved_slot
   matrix-moved slot = refl
 
-  pub e-moved : (slot : Slot) → count_e (movedSlot t i slot) ≡ count_e slot
-  unfolding count_e movedSlot
+  pub e-moved : (slot : Slot) → count_e (moved_slot t i slot) ≡ count_e slot
+  unfolding count_e moved_slot
   e-moved slot = refl
 
-  pub r-moved : (slot : Slot) → count_r (movedSlot t i slot) ≡ count_r slot
-  unfolding count_r movedSlot
+  pub r-moved : (slot : Slot) → count_r (moved_slot t i slot) ≡ count_r slot
+  unfolding count_r moved_slot
   r-moved slot = refl
 
-  pub used_moved : (slot : Slot) → (movedSlot t i slot).used ≡ slot.used
-  unfolding movedSlot
+  pub used_moved : (slot : Slot) → (moved_slot t i slot).used ≡ slot.used
+  unfolding moved_slot
   used_moved slot = refl
 
-  slot_put : (x : Record) (s : ℕ) (slot : Slot) → with_slot (moved_record t i x) s (movedSlot t i slot) ≡ moved_record t i (with_slot x s slot)
+  slot_put : (x : Record) (s : ℕ) (slot : Slot) → with_slot (moved_record t i x) s (moved_slot t i slot) ≡ moved_record t i (with_slot x s slot)
   slot_put x s slot =
-      ap (with_slots x) (sym (map-set (movedSlot t i) x.slots s slot))
+      ap (with_slots x) (sym (map-set (moved_slot t i) x.slots s slot))
 
   -- ---- the slot of a matrix
 
@@ -95,10 +95,10 @@ module _ (t : Twice) (i : ℕ) where
   slot_for_lem x C = ap₂ (λ a b. pick (ltb a 20) a b) (own_slot_lem x C) (free_slot_lem x)
 
   -- a slot just opened has nothing to move
-  opened_moved : (C : List (List Element)) (slot : Slot) → opened C (movedSlot t i slot) ≡ movedSlot t i (opened C slot)
-  unfolding opened movedSlot zero_slot map_from fresh
+  opened_moved : (C : List (List Element)) (slot : Slot) → opened C (moved_slot t i slot) ≡ moved_slot t i (opened C slot)
+  unfolding opened moved_slot zero_slot map_from fresh
   opened_moved C slot =
-      elim slot.used as (λ b. pick b (movedSlot t i slot) (fresh C) ≡ movedSlot t i (pick b slot (fresh C)))
+      elim slot.used as (λ b. pick b (moved_slot t i slot) (fresh C) ≡ moved_slot t i (pick b slot (fresh C)))
       [ true ↦ refl | false ↦ refl ]
 
   first_moved : (w : ℕ) (p : Point) (f : Four) → first_point (moved_point t w p) (moved_four t w f) ≡ moved_point t w (first_point p f)
@@ -106,8 +106,8 @@ module _ (t : Twice) (i : ℕ) where
   first_moved w (Held g) f = refl
 
   holding_moved : (slot : Slot) (m : ℕ) (f : Four)
-      → holding (movedSlot t i slot) m (moved_four t (zed t i * zed t (m + 1)) f) ≡ map_from (moved_place t i) 0 (holding slot m f)
-  unfolding movedSlot
+      → holding (moved_slot t i slot) m (moved_four t (zed t i * zed t (m + 1)) f) ≡ map_from (moved_place t i) 0 (holding slot m f)
+  unfolding moved_slot
   holding_moved slot m f =
       let w : ℕ = zed t i * zed t (m + 1) in
       let put : Point → List Place = λ p. set (map_from (moved_place t i) 0 slot.places) m (record { point = p }) in
@@ -118,12 +118,12 @@ module _ (t : Twice) (i : ℕ) where
       ∙ sym (map_from-set (moved_place t i) slot.places 0 m new)
 
   taken_moved : (b : Side) (slot : Slot) (m : ℕ) (f : Four)
-      → taken b (movedSlot t i slot) m (moved_four t (zed t i * zed t (m + 1)) f) ≡ movedSlot t i (taken b slot m f)
-  unfolding movedSlot
+      → taken b (moved_slot t i slot) m (moved_four t (zed t i * zed t (m + 1)) f) ≡ moved_slot t i (taken b slot m f)
+  unfolding moved_slot
   taken_moved b slot m f = rw (holding_moved slot m f)
 
-  keeping_moved : (slot : Slot) (p : Pair) → keeping (movedSlot t i slot) (moved_pair t (zed t i * zed t 0) p) ≡ movedSlot t i (keeping slot p)
-  unfolding keeping movedSlot
+  keeping_moved : (slot : Slot) (p : Pair) → keeping (moved_slot t i slot) (moved_pair t (zed t i * zed t 0) p) ≡ moved_slot t i (keeping slot p)
+  unfolding keeping moved_slot
   keeping_moved slot p = refl
 
 -- what a slot has to have when ready is sent from it: points of k different boxes, for the dealt matrix
@@ -157,12 +157,12 @@ module _ (t : Twice) (h : Given t) (i : ℕ) where
       }
 
   module _ (x : Record) (e : x.setup ≡ own (numbers t) i) (s : ℕ) (slot : Slot) where
-    lowest_points : lowest (moved_record t i x) (movedSlot t i slot) ≡ map (moved_said t i) (lowest x slot)
+    lowest_points : lowest (moved_record t i x) (moved_slot t i slot) ≡ map (moved_said t i) (lowest x slot)
     lowest_points = lowest_moved t i slot x.setup.k
 
     ready_sent_lem : Ripe t slot
         → MovedStep t i (ready_sent x s slot (lowest x slot))
-        (ready_sent (moved_record t i x) s (movedSlot t i slot) (lowest (moved_record t i x) (movedSlot t i slot)))
+        (ready_sent (moved_record t i x) s (moved_slot t i slot) (lowest (moved_record t i x) (moved_slot t i slot)))
     unfolding ready_sent tag_of
     ready_sent_lem ripe =
         let ps : List (Said Four) = take (numbers t).k (points slot.places) in
@@ -186,25 +186,25 @@ module _ (t : Twice) (h : Given t) (i : ℕ) where
           });
         })
 
-    still_moved : MovedStep t i (quiet (with_slot x s slot)) (quiet (with_slot (moved_record t i x) s (movedSlot t i slot)))
+    still_moved : MovedStep t i (quiet (with_slot x s slot)) (quiet (with_slot (moved_record t i x) s (moved_slot t i slot)))
     still_moved = rw (slot_put t i x s slot) (quiet_moved t i (with_slot x s slot))
 
-    done_moved : MovedStep t i (completed (with_slot x s slot) s) (completed (with_slot (moved_record t i x) s (movedSlot t i slot)) s)
+    done_moved : MovedStep t i (completed (with_slot x s slot) s) (completed (with_slot (moved_record t i x) s (moved_slot t i slot)) s)
     unfolding completed completing
     done_moved =
         subst (λ (y : Record). MovedStep t i (completed (with_slot x s slot) s) (completed y s)) (sym (slot_put t i x s slot))
         (record { after = refl; sent = refl; completed = refl; recovered = refl; bytes = inl (refl, refl) })
 
-    due_moved : (b : Side) → ready_due x.setup b (movedSlot t i slot) ≡ ready_due x.setup b slot
+    due_moved : (b : Side) → ready_due x.setup b (moved_slot t i slot) ≡ ready_due x.setup b slot
     due_moved ByEcho = rw (e-moved t i slot, r-moved t i slot)
     due_moved ByReady = rw (e-moved t i slot, r-moved t i slot)
 
-    completion_moved : (b : Side) → completion_due x.setup b (movedSlot t i slot) ≡ completion_due x.setup b slot
+    completion_moved : (b : Side) → completion_due x.setup b (moved_slot t i slot) ≡ completion_due x.setup b slot
     completion_moved ByEcho = refl
     completion_moved ByReady = rw (r-moved t i slot)
 
     point_at_lem : (b : Side) → (ready_due x.setup b slot ≡ true → Ripe t slot)
-        → MovedStep t i (point_at b x s slot) (point_at b (moved_record t i x) s (movedSlot t i slot))
+        → MovedStep t i (point_at b x s slot) (point_at b (moved_record t i x) s (moved_slot t i slot))
     unfolding point_at
     point_at_lem b ripe =
         rw (due_moved b, completion_moved b)
@@ -216,7 +216,7 @@ module _ (t : Twice) (h : Given t) (i : ℕ) where
     abbrev here : ℕ
     here = slot_for x C
 
-    open_here : opened C (slot_at (moved_record t i x) (slot_for (moved_record t i x) C)) ≡ movedSlot t i (opened C (slot_at x here))
+    open_here : opened C (slot_at (moved_record t i x) (slot_for (moved_record t i x) C)) ≡ moved_slot t i (opened C (slot_at x here))
     open_here =
         ap (λ (s : ℕ). opened C (slot_at (moved_record t i x) s)) (slot_for_lem t i x C)
         ∙ ap (opened C) (slot-moved t i x here)

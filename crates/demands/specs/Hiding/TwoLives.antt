@@ -24,7 +24,7 @@ use Rattle.rules.proofs.Laws.DemandOne.{answered_accepted}
 use Rattle.demands.specs.Terms.Histories.{Call, deals, gets, commanded, own, doing, after, answers, wrote, sendings, message_to, message_at}
 use Rattle.demands.specs.Lives.{life_sound}
 use Rattle.demands.specs.Lives.Born.{born}
-use Rattle.demands.specs.Hiding.Moves.{Twice, numbers, coins', moved_message, movedSlot, moved_record}
+use Rattle.demands.specs.Hiding.Moves.{Twice, numbers, coins', moved_message, moved_slot, moved_record}
 use Rattle.demands.specs.Hiding.Hypotheses.{Given, own_taken}
 use Rattle.demands.specs.Hiding.SentTwice.{Proper, twin_to, Twins, twins_none, twins_more, twins_length, twins_at}
 use Rattle.demands.specs.Hiding.Outcomes.{DoneAlike, answered_alike, row_alike, call_alike}
@@ -100,7 +100,7 @@ module _ (t : Twice) (h : Given t) (i : ℕ) (box-i : is_box (numbers t) i ≡ t
   u = own (numbers t) i
 
   new_moved : new_record u ≡ moved_record t i (new_record u)
-  unfolding new_record movedSlot map_from zero_slot
+  unfolding new_record moved_slot map_from zero_slot
   new_moved = refl
 
   pub both-new : Both t i [] []

@@ -13,7 +13,7 @@ use Rattle.rules.specs.declared.Exponent.{Exponent}
 use Rattle.rules.specs.declared.Four.{Four}
 use Rattle.rules.specs.declared.Polynomials.{Polynomials}
 use Rattle.rules.specs.Matrices.{coefficient, α, α', β, β'}
-use Rattle.rules.specs.Dealing.{polynomials_below, four_below, polynomial_check, point_check, opens, l_equation, j_equation, αEquation, βEquation}
+use Rattle.rules.specs.Dealing.{polynomials_below, four_below, polynomial_check, point_check, opens, l_equation, j_equation, α_equation, β_equation}
 use Rattle.rules.proofs.Laws.Checks.{four_below_lem, polynomials_below_lem, four_lows}
 use Rattle.demands.specs.Terms.Dealing.{group}
 use Rattle.demands.specs.Terms.Secrets.{z, difference, difference'}
@@ -31,7 +31,7 @@ module _ (t : Twice) (h : Given t) where
 
   pub point_unseen : (C : List (List Element)) (i m w : ℕ) (f : Four)
       → point_check (group (numbers t)) (numbers t).k C i m (moved_four t w f) ≡ point_check (group (numbers t)) (numbers t).k C i m f
-  unfolding point_check αEquation βEquation
+  unfolding point_check α_equation β_equation
   point_unseen C i m w f = ap₂ ◌and◌ (equation_unseen w (α f) (α' f) _) (equation_unseen w (β f) (β' f) _)
 
   -- one side of the polynomial check: a and a', or b and b'

@@ -23,19 +23,19 @@ use Rattle.record_clauses.specs.Clauses.{zero_from}
 use Rattle.record_clauses.proofs.entries_zero.Statement.{statement}
 use Rattle.record_clauses.proofs.entries_zero.Tie as tie
 
-abbrev rowPasses : ℕ → Slot → ℕ → Bool
-rowPasses k slot j = all_below 8 (λ l. (slot.used and ltb j k and ltb l k) or eqb (entry (matrix_of slot) j l) 0)
+abbrev row_passes : ℕ → Slot → ℕ → Bool
+row_passes k slot j = all_below 8 (λ l. (slot.used and ltb j k and ltb l k) or eqb (entry (matrix_of slot) j l) 0)
 
 -- the column that a row's zeros start from
-abbrev columnOf : ℕ → Slot → ℕ → ℕ
-columnOf k slot j = pick (slot.used and ltb j k) k 0
+abbrev column_of : ℕ → Slot → ℕ → ℕ
+column_of k slot j = pick (slot.used and ltb j k) k 0
 
 before-column : (u v : Bool) (k l : ℕ) → ltb l (pick (u and v) k 0) ≡ u and v and ltb l k
 before-column true true k l = refl
 before-column true false k l = le-ltb l 0 (omega arith)
 before-column false v k l = le-ltb l 0 (omega arith)
 
-row_read : (k : ℕ) (slot : Slot) (j : ℕ) → zero_from (columnOf k slot j) (row_at (get_or slot.rows j no_row)) ≡ rowPasses k slot j
+row_read : (k : ℕ) (slot : Slot) (j : ℕ) → zero_from (column_of k slot j) (row_at (get_or slot.rows j no_row)) ≡ row_passes k slot j
 unfolding zero_from matrix_of
 row_read k slot j =
     all_below_same _ _ 8 (λ l h.
@@ -43,7 +43,7 @@ row_read k slot j =
     (ap (λ (r : List Element). eqb (get_or r l (element 0)).0 0) (sym (get_or-map row_at slot.rows j no_row))))
 
 abbrev invariant-loop-j : tie.invariant-loop-j
-invariant-loop-j k slot j₀ j = all_below j (rowPasses k slot) ≡ true
+invariant-loop-j k slot j₀ j = all_below j (row_passes k slot) ≡ true
 
 abbrev decreases-loop-j : tie.decreases-loop-j
 decreases-loop-j k slot j₀ j = 8 - j
@@ -51,14 +51,14 @@ decreases-loop-j k slot j₀ j = 8 - j
 -- the code's test of a row
 tested : (c : tie.After-zero_from invariant-loop-j decreases-loop-j)
     → let head = c.before.before.before.before.before in
-    c.zero_from.result ≡ rowPasses head.before.args.k head.before.args.slot head.loop-j.j
+    c.zero_from.result ≡ row_passes head.before.args.k head.before.args.slot head.loop-j.j
 tested c =
     let met = c.before in
     let head = met.before.before.before.before in
     let k = head.before.args.k in
     let slot = head.before.args.slot in
     let j = head.loop-j.j in
-    let column : met.if-slot.column ≡ columnOf k slot j =
+    let column : met.if-slot.column ≡ column_of k slot j =
     ⊎_elim
     (λ w. let low : ltb j k ≡ true = lt-ltb _ _ w.if-j-k.true in rw (w.if-slot.true, low) w.column-is)
     (λ w. ⊎_elim (λ v. let high : ltb j k ≡ false = le-ltb _ _ v.if-j-k.false in rw (v.if-slot.true, high) w.column-is) (λ v. rw v.if-slot.false w.column-is) w.else-slot.branch-raw)

@@ -12,7 +12,7 @@ use Rattle.rules.specs.declared.Four.{Four}
 use Rattle.rules.specs.declared.Group.{Group}
 use Rattle.rules.specs.declared.Pair.{Pair}
 use Rattle.rules.specs.Matrices.{α, α', β, β'}
-use Rattle.rules.specs.Dealing.{in_group, matrix_passes, opens, opened_at, αEquation, βEquation, point_check, σEquation, share_check}
+use Rattle.rules.specs.Dealing.{in_group, matrix_passes, opens, opened_at, α_equation, β_equation, point_check, σ_equation, share_check}
 use Rattle.rules.specs.Record.{same_matrix}
 use Rattle.rules.proofs.Laws.Sound.{agree_comm, agree_at, agree_all}
 use Rattle.rules.proofs.Laws.Checks.{matrix_passes_lem, entry_in}
@@ -43,12 +43,12 @@ module _ (G : Group) (k : ℕ) (C D : List (List Element)) (h : same_matrix k C 
       (prod_below_same _ _ k (λ j a. prod_below_same _ _ k (λ l b. ap (λ (n : ℕ). n ^ (x ^ j * y ^ l)) (agree_at k C D h j l a b))))
 
   pub point_agree : (i m : ℕ) (f : Four) → point_check G k C i m f ≡ point_check G k D i m f
-  unfolding point_check αEquation βEquation
+  unfolding point_check α_equation β_equation
   point_agree i m f =
       ap₂ (λ (a b : ℕ). opens G (α f) (α' f) a and opens G (β f) (β' f) b) (opened_agree m i) (opened_agree i m)
 
   pub share_agree : 0 < k → (m : ℕ) (s : Pair) → share_check G k C m s ≡ share_check G k D m s
-  unfolding share_check σEquation
+  unfolding share_check σ_equation
   share_agree z m s =
       ap (λ (n : ℕ). opens G s.first.0 s.second.0 (n % G.p))
       (prod_below_same _ _ k (λ j a. ap (λ (n : ℕ). n ^ (m ^ j)) (agree_at k C D h j 0 a z)))

@@ -23,7 +23,7 @@ use Rattle.rules.specs.declared.Group.{Group}
 use Rattle.rules.specs.declared.Pair.{Pair}
 use Rattle.rules.specs.declared.Polynomials.{Polynomials}
 use Rattle.rules.specs.Matrices.{entry, coefficient, α, α', β, β'}
-use Rattle.rules.specs.Dealing.{committed, in_group, matrix_passes, coefficients_below, polynomials_below, four_below, pair_below, opens, along_column, along_row, l_equation, j_equation, polynomial_check, opened_at, αEquation, βEquation, point_check, σEquation, share_check}
+use Rattle.rules.specs.Dealing.{committed, in_group, matrix_passes, coefficients_below, polynomials_below, four_below, pair_below, opens, along_column, along_row, l_equation, j_equation, polynomial_check, opened_at, α_equation, β_equation, point_check, σ_equation, share_check}
 use Rattle.rules.specs.Steps.{Said, through, pair_from, ready_four, echo_four, recovered_from}
 use Rattle.rules.proofs.Laws.Dealing.{value_below}
 
@@ -119,20 +119,20 @@ module _ (G : Group) (k : ℕ) (C : List (List Element)) where
   module _ (i m : ℕ) (f : Four) where
     pub point_checks : committed G (α f) (α' f) ≡ opened_at G k C m i → committed G (β f) (β' f) ≡ opened_at G k C i m
         → point_check G k C i m f ≡ true
-    unfolding point_check αEquation βEquation
+    unfolding point_check α_equation β_equation
     point_checks h h' = and_intro _ _ ((opened_by G _ _ _).1 h) ((opened_by G _ _ _).1 h')
 
     pub point_α : point_check G k C i m f ≡ true → committed G (α f) (α' f) ≡ opened_at G k C m i
-    unfolding point_check αEquation
-    point_α h = (opened_by G _ _ _).0 (and_left (αEquation G k C i m f) _ h)
+    unfolding point_check α_equation
+    point_α h = (opened_by G _ _ _).0 (and_left (α_equation G k C i m f) _ h)
 
     pub point_β : point_check G k C i m f ≡ true → committed G (β f) (β' f) ≡ opened_at G k C i m
-    unfolding point_check βEquation
-    point_β h = (opened_by G _ _ _).0 (and_right (αEquation G k C i m f) _ h)
+    unfolding point_check β_equation
+    point_β h = (opened_by G _ _ _).0 (and_right (α_equation G k C i m f) _ h)
 
   -- the share check is its one equation
   pub share_equation : (m : ℕ) (s : Pair) → (share_check G k C m s ≡ true) ↔ (committed G s.first.0 s.second.0 ≡ along_column k C m 0 % G.p)
-  unfolding share_check σEquation
+  unfolding share_check σ_equation
   share_equation m s = opened_by G _ _ _
 
 -- ---- exponents below q

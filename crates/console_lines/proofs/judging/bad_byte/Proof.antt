@@ -12,11 +12,11 @@ use Rattle.console_lines.specs.Judging.{is_outside, bad_byte}
 use Rattle.console_lines.proofs.judging.bad_byte.Statement.{statement}
 use Rattle.console_lines.proofs.judging.bad_byte.Tie as tie
 
-abbrev outsideAt : List ℕ → ℕ → Bool
-outsideAt b i = is_outside (get_or b i 0)
+abbrev outside_at : List ℕ → ℕ → Bool
+outside_at b i = is_outside (get_or b i 0)
 
 abbrev invariant-loop-i : tie.invariant-loop-i
-invariant-loop-i line i₀ i = NotYet (outsideAt line) (length line) i
+invariant-loop-i line i₀ i = NotYet (outside_at line) (length line) i
 
 abbrev decreases-loop-i : tie.decreases-loop-i
 decreases-loop-i line i₀ i = length line - i

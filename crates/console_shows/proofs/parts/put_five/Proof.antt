@@ -15,11 +15,11 @@ use Rattle.console_shows.proofs.parts.put_five.Statement.{statement}
 use Rattle.console_shows.proofs.parts.put_five.Tie as tie
 
 -- what is put for the power of ten that comes in place j, of four
-abbrev digitIn : ℕ → ℕ → List ℕ
-digitIn x j = digit_of x (10 ^ (4 - j)) ∷ []
+abbrev digit_in : ℕ → ℕ → List ℕ
+digit_in x j = digit_of x (10 ^ (4 - j)) ∷ []
 
 abbrev invariant-loop-j : tie.invariant-loop-j
-invariant-loop-j page₀ at x next₀ power₀ j₀ page next power j = PutRuns (digitIn x) 1 4 at page₀ page next j × (power ≡ 10 ^ (4 - j))
+invariant-loop-j page₀ at x next₀ power₀ j₀ page next power j = PutRuns (digit_in x) 1 4 at page₀ page next j × (power ≡ 10 ^ (4 - j))
 
 abbrev decreases-loop-j : tie.decreases-loop-j
 decreases-loop-j page₀ at x next₀ power₀ j₀ page next power j = 4 - j
@@ -40,7 +40,7 @@ unfolding five_digits
 returns c =
     let given = c.before.before.args in
     let loop = c.before.loop-j in
-    puts_then given.page.now given.at (gather 4 (digitIn given.x)) (digit_of given.x 1 ∷ []) 4 1
+    puts_then given.page.now given.at (gather 4 (digit_in given.x)) (digit_of given.x 1 ∷ []) 4 1
     (runs_all loop.invariant.0 c.loop-j-test.false)
     (puts_byte loop.page loop.next (ap (λ (y : ℕ). 48 + y % 10) (sym (div-one given.x))))
 

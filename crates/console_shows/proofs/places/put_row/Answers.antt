@@ -5,7 +5,7 @@ use Rattle.folds.specs.Runs.{gather}
 use Rattle.rules.specs.Text.{text}
 use Rattle.text.specs.Puts.{runs_none, runs_more, runs_all, puts_room}
 use Rattle.console_shows.specs.Show.{row_text}
-use Rattle.console_shows.proofs.places.put_row.Invariants.{entryText}
+use Rattle.console_shows.proofs.places.put_row.Invariants.{entry_text}
 use Rattle.console_shows.proofs.places.put_row.Goals as goal
 
 pub loop-l-init : goal.loop-l-init
@@ -18,5 +18,5 @@ loop-l-preserved c = runs_more c.loop-l.invariant c.loop-l-test.true c.put_numbe
 pub returns : goal.returns
 unfolding row_text
 returns c =
-    puts_room c.args.page.now c.args.at (gather c.args.width (entryText c.args.row)) (c.args.width * 6) 48 (omega arith)
+    puts_room c.args.page.now c.args.at (gather c.args.width (entry_text c.args.row)) (c.args.width * 6) 48 (omega arith)
     (runs_all c.loop-l.invariant c.loop-l-test.false)

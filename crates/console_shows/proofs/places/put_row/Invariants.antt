@@ -10,11 +10,11 @@ use Rattle.console_shows.specs.Parts.{numbered}
 use Rattle.console_shows.proofs.places.put_row.Given as goal
 
 -- a space and entry l
-abbrev pub entryText : List Element → ℕ → List ℕ
-entryText row l = numbered (text " ") (get_or row l (element 0)).0
+abbrev pub entry_text : List Element → ℕ → List ℕ
+entry_text row l = numbered (text " ") (get_or row l (element 0)).0
 
 abbrev pub invariant-loop-l : goal.invariant-loop-l
-invariant-loop-l l = PutRuns (entryText l.row) 6 l.width l.at l.initial.page l.page l.next l.l
+invariant-loop-l l = PutRuns (entry_text l.row) 6 l.width l.at l.initial.page l.page l.next l.l
 
 abbrev pub decreases-loop-l : goal.decreases-loop-l
 decreases-loop-l l = l.width - l.l

@@ -15,11 +15,11 @@ use Rattle.record_soundness.specs.Clauses.{heard_clear}
 use Rattle.record_soundness.proofs.clauses.heard_clear.Statement.{statement}
 use Rattle.record_soundness.proofs.clauses.heard_clear.Tie as tie
 
-abbrev silentFor : List Marks → ℕ → ℕ → Bool
-silentFor heard m t = not (marked (get_or heard t no_marks) m)
+abbrev silent_for : List Marks → ℕ → ℕ → Bool
+silent_for heard m t = not (marked (get_or heard t no_marks) m)
 
 abbrev invariant-loop-t : tie.invariant-loop-t
-invariant-loop-t m heard t₀ t = all_below t (silentFor heard m) ≡ true
+invariant-loop-t m heard t₀ t = all_below t (silent_for heard m) ≡ true
 
 abbrev decreases-loop-t : tie.decreases-loop-t
 decreases-loop-t m heard t₀ t = 4 - t
@@ -32,7 +32,7 @@ loop-again : tie.Need-loop-t-preserved invariant-loop-t decreases-loop-t
 loop-again c =
     let head = c.before.before.before.before in
     let a = head.before.args in
-    all_below_more (silentFor a.heard a.m) head.loop-t.t head.loop-t.invariant (ap not c.if-marks-m.false)
+    all_below_more (silent_for a.heard a.m) head.loop-t.t head.loop-t.invariant (ap not c.if-marks-m.false)
 
 returns-2 : tie.Need-returns invariant-loop-t decreases-loop-t
 unfolding heard_clear

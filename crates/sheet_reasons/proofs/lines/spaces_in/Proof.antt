@@ -13,11 +13,11 @@ use Rattle.sheet_reasons.specs.Lines.{line_end, spaces_in}
 use Rattle.sheet_reasons.proofs.lines.spaces_in.Statement.{statement}
 use Rattle.sheet_reasons.proofs.lines.spaces_in.Tie as tie
 
-abbrev spaceAt : List ℕ → ℕ → ℕ → Bool
-spaceAt b i j = byte_at b (i + j) space
+abbrev space_at : List ℕ → ℕ → ℕ → Bool
+space_at b i j = byte_at b (i + j) space
 
 abbrev invariant-loop-j : tie.invariant-loop-j
-invariant-loop-j b i end width spaces₀ j₀ spaces j = Counted (spaceAt b i) width j spaces
+invariant-loop-j b i end width spaces₀ j₀ spaces j = Counted (space_at b i) width j spaces
 
 abbrev decreases-loop-j : tie.decreases-loop-j
 decreases-loop-j b i end width spaces₀ j₀ spaces j = width - j
@@ -33,13 +33,13 @@ unfolding spaces_in
 returns c =
     let given = c.before.before.before.before.args in
     let none : line_end given.b.now given.i - given.i ≡ 0 = omega (arith, ends c.before) in
-    sym (ap (λ n. count_below n (spaceAt given.b.now given.i)) none ∙ count_below-zero _)
+    sym (ap (λ n. count_below n (space_at given.b.now given.i)) none ∙ count_below-zero _)
 
 add-spaces : tie.Need-overflow_add-spaces invariant-loop-j decreases-loop-j
 add-spaces c =
     let head = c.before.before.before in
     let given = head.before.before.before.before.before.args in
-    omega (arith, count_below_le (spaceAt given.b.now given.i) head.loop-j.j)
+    omega (arith, count_below_le (space_at given.b.now given.i) head.loop-j.j)
 
 loop-again : tie.Need-loop-j-preserved invariant-loop-j decreases-loop-j
 loop-again c =
@@ -53,8 +53,8 @@ unfolding spaces_in
 returns-2 c =
     let found = c.before.before.before in
     let given = found.before.before.before.args in
-    counted_all (spaceAt given.b.now given.i) _ _ c.loop-j-test.false c.before.loop-j.invariant
-    ∙ ap (λ e. count_below (e - given.i) (spaceAt given.b.now given.i)) (ends found)
+    counted_all (space_at given.b.now given.i) _ _ c.loop-j-test.false c.before.loop-j.invariant
+    ∙ ap (λ e. count_below (e - given.i) (space_at given.b.now given.i)) (ends found)
 
 pub spaces_in_spec : {M : Type 1} → statement M
 spaces_in_spec =
