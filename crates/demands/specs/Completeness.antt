@@ -36,9 +36,9 @@ use Rattle.demands.specs.Terms.Dealing.{group, order, dealt_point, dealt_share, 
 use Rattle.demands.specs.Sharing.{size, send_passes, echo_passes, ready_passes, points_give}
 use Rattle.demands.specs.Terms.Lives.{kept_for, lowest_for, readies_sent, answer_to}
 use Rattle.demands.specs.Lives.{life_sound, kept_then, kept_passes, completed_kept}
-use Rattle.demands.specs.Lives.Slots.{slot-used, there_some}
-use Rattle.demands.specs.Lives.Born.{good, own-setup, numbers_keep_lem, facts_at}
-use Rattle.demands.specs.Lives.Readies.{used-there, held_differ}
+use Rattle.demands.specs.Lives.Slots.{slot_used, there_some}
+use Rattle.demands.specs.Lives.Born.{good, own_setup, numbers_keep_lem, facts_at}
+use Rattle.demands.specs.Lives.Readies.{used_there, held_differ}
 use Rattle.demands.specs.Lives.Origins.{Spoken, spoken}
 use Acceptance.{Welcome, welcomed}
 use Rattle.demands.specs.Own.{own_bytes}
@@ -61,8 +61,8 @@ module _ (u : SetUp) (taken : (set_up u).answer.no ≡ 0) (cs : List Call) (s : 
       let numbers = numbers_keep_lem u taken in
       let low = (size u numbers).low in
       let facts = facts_at u taken cs s l in
-      let used = used-there u slot facts (omega arith) there in
-      let here = slot-used x (good u taken cs) s l used in
+      let used = used_there u slot facts (omega arith) there in
+      let here = slot_used x (good u taken cs) s l used in
       let passes = facts.contents.passes used in
       record {
         passes = passes;
@@ -78,7 +78,7 @@ module _ (u : SetUp) (taken : (set_up u).answer.no ≡ 0) (cs : List Call) (s : 
 -- a box's own number is one of the class
 own_box : (u : SetUp) (i : ℕ) → (set_up (own u i)).answer.no ≡ 0 → (1 ≤ i) × (i ≤ u.n)
 own_box u i taken =
-    subst (λ (v : SetUp). (1 ≤ v.i) × (v.i ≤ v.n)) (own-setup (own u i) taken [])
+    subst (λ (v : SetUp). (1 ≤ v.i) × (v.i ≤ v.n)) (own_setup (own u i) taken [])
     (bounds (after (own u i) []).setup (good (own u i) taken []).facts.numbers).own
 
 -- a box i and a box j of one class, each after calls of its own; box i's next call sends; what it sends to j is delivered
@@ -94,10 +94,10 @@ module _ (u : SetUp) (i j : ℕ) (taken : (set_up (own u i)).answer.no ≡ 0) (t
   said_by_lem what e =
       subst (λ (w : Sent). Spoken (own u i) sender c w (wrote (doing sender c))) e
       (subst (λ (v : SetUp). Spoken v sender c (doing sender c).outcome.answer.sent (wrote (doing sender c)))
-      (own-setup (own u i) taken cs) (spoken sender (good (own u i) taken cs) c))
+      (own_setup (own u i) taken cs) (spoken sender (good (own u i) taken cs) c))
 
   at_j : addressee.setup ≡ own u j
-  at_j = own-setup (own u j) taken' cs'
+  at_j = own_setup (own u j) taken' cs'
 
   from_box : is_box addressee.setup i ≡ true
   from_box = let b = own_box u i taken in rw at_j (box_is (own u j) i b.0 b.1)

@@ -38,12 +38,12 @@ use Rattle.demands.specs.Terms.Secrets.{Few, matching, dealing, played, Uncomman
 use Rattle.demands.specs.Histories.{one_call_at_most}
 use Rattle.demands.specs.Lives.Marks.{unmarked_before}
 use Rattle.demands.specs.Own.{own_taken}
-use Moves.{Twice, numbers, in_set, coins', moved_slot, slot-moved}
-use Hypotheses.{Given, zed-on-set}
+use Moves.{Twice, numbers, in_set, coins', moved_slot, slot_moved}
+use Hypotheses.{Given, zed_on_set}
 use SentTwice.{set-bytes}
-use Steps.{matrix-moved, e-moved, r-moved}
-use Arrivals.{forged, handed-on}
-use TwoLives.{Both, both-new, both-deals, both-refused, both-gets, both-commanded, Sent, both-sent}
+use Steps.{matrix_moved, e_moved, r_moved}
+use Arrivals.{forged, handed_on}
+use TwoLives.{Both, both_new, both_deals, both_refused, both_gets, both_commanded, Sent, both_sent}
 
 -- ---- no recovery has been commanded
 
@@ -88,8 +88,8 @@ module _ (t : Twice) (h : Given t) where
   dealt_linked : (i : ℕ) → is_box (numbers t) i ≡ true → (cs cs' : List Call) → Both t i cs cs' → (s : ℕ) (l : List ℕ) (lent : ℕ) (own : Bool)
       → coins_keep (numbers t) s l ≡ own
       → Both t i (deals (pick own t.s s) (pick own t.coins l) lent ∷ cs) (deals (pick own t.s' s) (pick own (coins' t) l) lent ∷ cs')
-  dealt_linked i b cs cs' v s l lent true e = both-deals t h i b cs cs' v lent
-  dealt_linked i b cs cs' v s l lent false e = both-refused t h i b cs cs' v s l lent e
+  dealt_linked i b cs cs' v s l lent true e = both_deals t h i b cs cs' v lent
+  dealt_linked i b cs cs' v s l lent false e = both_refused t h i b cs cs' v s l lent e
 
   -- a message handed on, if there is one
   handed_linked : (i from lent : ℕ) → is_box (numbers t) i ≡ true → (l l' : List (List ℕ)) (cs cs' : List Call)
@@ -97,11 +97,11 @@ module _ (t : Twice) (h : Given t) where
       → Both t i (handed from lent l ++ cs) (handed from lent l' ++ cs')
   handed_linked i from lent b l l' cs cs' (inl w) v m = rw (w.0, w.1) v
   handed_linked i from lent b l l' cs cs' (inr w) v m =
-      rw (w.2, w.3) (both-gets t h i b cs cs' v from _ _ lent (handed-on t h i from w.0 w.1) m)
+      rw (w.2, w.3) (both_gets t h i b cs cs' v from _ _ lent (handed_on t h i from w.0 w.1) m)
 
   linked : (script : List Event) → Uncommanded t.class (first script) → (i : ℕ) → keeps t.class i ≡ true → Linked script i
   unfolding played calls
-  linked [] u i k = both-new t h i (box_of i k)
+  linked [] u i k = both_new t h i (box_of i k)
   linked (deal_at at secret coins lent ∷ es) u i k =
       let v = linked es (before (deal_at at secret coins lent) es u) i k in
       pick_two (Both t i) (eqb at i and keeps t.class i) _ _ _ _
@@ -117,7 +117,7 @@ module _ (t : Twice) (h : Given t) where
       handed_linked i from lent (box_of i k) _ _ _ _
       (subst (λ (j : ℕ). Sent t from j (message_at (own (numbers t) from) (calls t.class (first es) from) to place)
       (message_at (own (numbers t) from) (calls t.class (second es) from) to place)) it
-      (both-sent t h from (box_of from kf) _ _ (linked es m from kf) to place (ap (is_box (numbers t)) it ∙ box_of i k)))
+      (both_sent t h from (box_of from kf) _ _ (linked es m from kf) to place (ap (is_box (numbers t)) it ∙ box_of i k)))
       v (m i k))
       (λ e. v)
   linked (forge from to bytes lent ∷ es) u i k =
@@ -126,12 +126,12 @@ module _ (t : Twice) (h : Given t) where
       pick_two (Both t i) (eqb to i and keeps t.class i and not (keeps t.class from)) _ _ _ _
       (λ e.
       let n = not-true _ (and_right (keeps t.class i) _ (and_right (eqb to i) _ e)) in
-      both-gets t h i (box_of i k) _ _ v from bytes bytes lent (forged t h i from bytes n) (m i k))
+      both_gets t h i (box_of i k) _ _ v from bytes bytes lent (forged t h i from bytes n) (m i k))
       (λ e. v)
   linked (command_at at lent ∷ es) u i k =
       let v = linked es (before (command_at at lent) es u) i k in
       pick_two (Both t i) (eqb at i and keeps t.class i) _ _ _ _
-      (λ e. both-commanded t h i (box_of i k) _ _ v lent (rw e at (u i k)))
+      (λ e. both_commanded t h i (box_of i k) _ _ v lent (rw e at (u i k)))
       (λ e. v)
 
   -- ---- what the set sees
@@ -140,7 +140,7 @@ module _ (t : Twice) (h : Given t) where
       → (l l' : List (List ℕ)) → Sent t from to l l' → l ≡ l'
   set_same from to b e l l' (inl w) = w.0 ∙ sym w.1
   set_same from to b e l l' (inr w) =
-      w.2 ∙ ap (λ (m : List ℕ). m ∷ []) (sym (set-bytes t h from to (zed-on-set t h to b e) w.0 w.1)) ∙ sym w.3
+      w.2 ∙ ap (λ (m : List ℕ). m ∷ []) (sym (set-bytes t h from to (zed_on_set t h to b e) w.0 w.1)) ∙ sym w.3
 
   same_seen : (script : List Event) → Uncommanded t.class (first script)
       → seen t.class (first script) ≡ seen t.class (second script)
@@ -155,7 +155,7 @@ module _ (t : Twice) (h : Given t) where
       let b = and_left (is_box (numbers t) to) _ (and_left _ _ e) in
       ap₂ ◌++◌
       (set_same from to b (and_right (is_box (numbers t) to) _ (and_left _ _ e)) _ _
-      (both-sent t h from (box_of from kf) _ _ (linked es m from kf) to place b))
+      (both_sent t h from (box_of from kf) _ _ (linked es m from kf) to place b))
       (same_seen es m))
       (λ e. same_seen es m)
   same_seen (forge from to bytes lent ∷ es) u = same_seen es (before (forge from to bytes lent) es u)
@@ -168,15 +168,15 @@ module _ (t : Twice) (h : Given t) where
       record {
         bytes = same_seen script u;
         told = λ i k. (linked script u i k).told;
-        matrix = λ i s k l. sym (ap matrix_of (slot i s k) ∙ matrix-moved t i (slot_at (record_of t.class (first script) i) s));
-        e = λ i s k l. sym (ap count_e (slot i s k) ∙ e-moved t i (slot_at (record_of t.class (first script) i) s));
-        r = λ i s k l. sym (ap count_r (slot i s k) ∙ r-moved t i (slot_at (record_of t.class (first script) i) s));
+        matrix = λ i s k l. sym (ap matrix_of (slot i s k) ∙ matrix_moved t i (slot_at (record_of t.class (first script) i) s));
+        e = λ i s k l. sym (ap count_e (slot i s k) ∙ e_moved t i (slot_at (record_of t.class (first script) i) s));
+        r = λ i s k l. sym (ap count_r (slot i s k) ∙ r_moved t i (slot_at (record_of t.class (first script) i) s));
         completed = λ i k. sym (ap (λ (y : Record). y.progress.completion) (linked script u i k).same);
       }
     where
       slot : (i s : ℕ) → keeps t.class i ≡ true
           → slot_at (record_of t.class (second script) i) s ≡ moved_slot t i (slot_at (record_of t.class (first script) i) s)
-      slot i s k = ap (λ (y : Record). slot_at y s) (linked script u i k).same ∙ slot-moved t i (record_of t.class (first script) i) s
+      slot i s k = ap (λ (y : Record). slot_at y s) (linked script u i k).same ∙ slot_moved t i (record_of t.class (first script) i) s
 
 -- ---- the statement
 

@@ -39,13 +39,13 @@ use Rattle.demands.specs.Histories.{sent_by, past_self, past_more, past_trans, p
 use Rattle.demands.specs.Terms.Dealing.{dealt_matrix, dealt_point, dealt_share}
 use Rattle.demands.specs.Lives.{completed_kept}
 use Rattle.demands.specs.Own.{dealer_box, own_taken}
-use Rattle.demands.specs.Lives.Born.{good, own-setup}
+use Rattle.demands.specs.Lives.Born.{good, own_setup}
 use Rattle.demands.specs.Lives.Marks.{deal-zero, one_deal}
 use Rattle.demands.specs.Lives.Slots.{there_some}
-use Messages.{Dealt, SentDealt, comes-dealt}
-use Holdings.{CallDealt, LifeDealt, is-taken, point-dealt, matrix-dealt, pair-dealt}
-use Sendings.{sendings-dealt}
-use Recovered.{share-dealt, recovered-dealt}
+use Messages.{Dealt, SentDealt, comes_dealt}
+use Holdings.{CallDealt, LifeDealt, is_taken, point_dealt, matrix_dealt, pair_dealt}
+use Sendings.{sendings_dealt}
+use Recovered.{share_dealt, recovered_dealt}
 
 -- ---- what was accepted
 
@@ -81,7 +81,7 @@ module _ (c : Class) (group : group_keeps c.numbers ≡ true) (numbers : numbers
         numbers_keep_lem = numbers;
         coins_keep_lem =
             subst (λ (v : SetUp). coins_keep v secret coins ≡ true)
-            (own-setup (own c.numbers c.numbers.d) dealer_taken before)
+            (own_setup (own c.numbers c.numbers.d) dealer_taken before)
             (deals_passed _ secret coins lent accepted).keeps;
       }
 
@@ -108,7 +108,7 @@ module _ (c : Class) (secret : ℕ) (coins : List ℕ) (h : AllKeep c secret coi
   lives_dealt es only before i box-i = go
     where
       set_up_lem : (cs : List Call) → (after (own u i) cs).setup ≡ own u i
-      set_up_lem = own-setup (own u i) (is-taken u secret coins h.deal i box-i)
+      set_up_lem = own_setup (own u i) (is_taken u secret coins h.deal i box-i)
 
       go : (call : Call) (cs : List Call) → Past (call ∷ cs) (calls c es i) → CallDealt u secret coins i (after (own u i) cs) call
       go (deals secret' coins' lent) cs p = λ e.
@@ -121,8 +121,8 @@ module _ (c : Class) (secret : ℕ) (coins : List ℕ) (h : AllKeep c secret coi
           subst (λ (v : SetUp). is_box v from ≡ true) (set_up_lem cs) (gets_passed _ from bytes lent e).hearing.box in
           let w = carries_earlier c es i from bytes lent cs (keeper from box-from) p in
           subst (λ (b : List ℕ). Dealt u secret coins from i (message_in u b)) (sym w.bytes_are)
-          (comes-dealt u secret coins h.deal from i box-i _
-          (sendings-dealt u secret coins h.deal from box-from (calls c w.then from)
+          (comes_dealt u secret coins h.deal from i box-i _
+          (sendings_dealt u secret coins h.deal from box-from (calls c w.then from)
           (before w.event w.then w.earlier from box-from) w.place w.sent))
       go (commanded lent) cs p = tt
 
@@ -148,28 +148,28 @@ module _ (c : Class) (secret : ℕ) (coins : List ℕ) (h : AllKeep c secret coi
 
   -- each sending is of dealt messages: the send of the dealer, echoes and readies of dealt points, the dealt share
   pub all_sent_is_dealt : Every (SentDealt c.numbers secret coins i) [] (sent_by c es i)
-  all_sent_is_dealt = sendings-dealt c.numbers secret coins h.deal i box-i (calls c es i) all_accepted_is_dealt
+  all_sent_is_dealt = sendings_dealt c.numbers secret coins h.deal i box-i (calls c es i) all_accepted_is_dealt
 
   -- a matrix in use is the dealt one,
   pub matrix_is_dealt : (s : ℕ) → s < 20 → (slot_at (record_of c es i) s).used ≡ true
       → matrix_of (slot_at (record_of c es i) s) ≡ dealt_matrix c.numbers secret coins
-  matrix_is_dealt = matrix-dealt c.numbers secret coins h.deal i box-i (calls c es i) all_accepted_is_dealt
+  matrix_is_dealt = matrix_dealt c.numbers secret coins h.deal i box-i (calls c es i) all_accepted_is_dealt
 
   -- every held point a dealt one,
   pub point_is_dealt : (s m : ℕ) (f : Four) → s < 20 → m < 10 → (place_at (slot_at (record_of c es i) s) m).point ≡ Held f
       → f ≡ dealt_point c.numbers secret coins (m + 1) i
-  point_is_dealt s m f l lm = point-dealt c.numbers secret coins h.deal i box-i (calls c es i) all_accepted_is_dealt s l m f lm
+  point_is_dealt s m f l lm = point_dealt c.numbers secret coins h.deal i box-i (calls c es i) all_accepted_is_dealt s l m f lm
 
   -- the kept pair the dealt share,
   pub pair_is_dealt : (s : ℕ) (p : Pair) → s < 20 → (slot_at (record_of c es i) s).pair.kept ≡ There p
       → p ≡ dealt_share c.numbers secret coins i
   pair_is_dealt s p l e =
-      pair-dealt c.numbers secret coins h.deal i box-i (calls c es i) all_accepted_is_dealt s l (ap is_there e) p e
+      pair_dealt c.numbers secret coins h.deal i box-i (calls c es i) all_accepted_is_dealt s l (ap is_there e) p e
 
   -- and a kept recovery share its sender's
   pub share_is_dealt : (m : ℕ) (p : Pair) → m < 10 → share_at (record_of c es i).shares m ≡ There p
       → p ≡ dealt_share c.numbers secret coins (m + 1)
-  share_is_dealt = share-dealt c.numbers secret coins h.deal i box-i (calls c es i) all_accepted_is_dealt
+  share_is_dealt = share_dealt c.numbers secret coins h.deal i box-i (calls c es i) all_accepted_is_dealt
 
   -- so there is one matrix in use at most,
   pub one_matrix : (s r : ℕ) → s < 20 → r < 20 → (slot_at (record_of c es i) s).used ≡ true → (slot_at (record_of c es i) r).used ≡ true → s ≡ r
@@ -181,7 +181,7 @@ module _ (c : Class) (secret : ℕ) (coins : List ℕ) (h : AllKeep c secret coi
           absurd (true≢false
           (sym (agree_self x.setup.k (matrix_of (slot_at x r)))
           ∙ ap (λ C. same_matrix x.setup.k C (matrix_of (slot_at x r))) (matrix_is_dealt r m ur ∙ sym (matrix_is_dealt s l us))
-          ∙ (good (own c.numbers i) (is-taken c.numbers secret coins h.deal i box-i) (calls c es i)).facts.slots.differ s r l m n us ur))
+          ∙ (good (own c.numbers i) (is_taken c.numbers secret coins h.deal i box-i) (calls c es i)).facts.slots.differ s r l m n us ur))
         where
           x : Record
           x = record_of c es i
@@ -190,11 +190,11 @@ module _ (c : Class) (secret : ℕ) (coins : List ℕ) (h : AllKeep c secret coi
   pub completed_share_is_dealt : (s : ℕ) → (record_of c es i).progress.completion ≡ With s
       → (slot_at (record_of c es i) s).pair.kept ≡ There (dealt_share c.numbers secret coins i)
   completed_share_is_dealt s e =
-      let w = completed_kept (own c.numbers i) (is-taken c.numbers secret coins h.deal i box-i) (calls c es i) s e in
+      let w = completed_kept (own c.numbers i) (is_taken c.numbers secret coins h.deal i box-i) (calls c es i) s e in
       let some = there_some _ w.1 in
       some.1 ∙ ap There (pair_is_dealt s some.0 w.0 some.1)
 
   -- and the pair that a box recovers is f(0, 0), f'(0, 0): the secret, and the coin that goes with it
   pub recovered_is_the_secret : (p : Pair) → (record_of c es i).recovered.kept ≡ There p
       → (p.first.0 ≡ secret) × (p.second.0 ≡ get_or coins (c.numbers.k * c.numbers.k - 1) 0)
-  recovered_is_the_secret = recovered-dealt c.numbers secret coins h.deal i box-i (calls c es i) all_accepted_is_dealt
+  recovered_is_the_secret = recovered_dealt c.numbers secret coins h.deal i box-i (calls c es i) all_accepted_is_dealt

@@ -120,30 +120,30 @@ echoes_are = refl
 abbrev readies_of : List (Said Four) → List ℕ
 readies_of ps = to_each class (λ j. ready D (ready_four (order class) ps j))
 
-readies-are : readies_of (record { box = 1; says = point 1 } ∷ record { box = 2; says = point 2 } ∷ []) ≡ readies
+readies_are : readies_of (record { box = 1; says = point 1 } ∷ record { box = 2; says = point 2 } ∷ []) ≡ readies
 unfolding computed
-readies-are = refl
+readies_are = refl
 
 matrix_is : matrix_in class ready_of_2 ≡ D
 unfolding computed
 matrix_is = refl
 
-shares-are : to_each class (λ j. recovery (pair 7 8)) ≡ shares
+shares_are : to_each class (λ j. recovery (pair 7 8)) ≡ shares
 unfolding computed
-shares-are = refl
+shares_are = refl
 
 -- ---- the deal and the command
 
 -- after two deals that were refused
-pub first-deal : Writes (doing (after class early) (deals 5 coins 2048)) Send sends
-first-deal =
+pub first_deal : Writes (doing (after class early) (deals 5 coins 2048)) Send sends
+first_deal =
     subst (Writes (doing (after class early) (deals 5 coins 2048)) Send) sends_are
     (deal_writes_the_sends class one_life.taken early refl one_life.sends_early 5 coins coins_keep_lem 2048 (omega arith))
 
 -- after one command that was refused
-pub first-command : Writes (doing (after class finished) (commanded 2048)) Recovery shares
-first-command =
-    subst (Writes (doing (after class finished) (commanded 2048)) Recovery) shares-are
+pub first_command : Writes (doing (after class finished) (commanded 2048)) Recovery shares
+first_command =
+    subst (Writes (doing (after class finished) (commanded 2048)) Recovery) shares_are
     (command_writes_the_share class one_life.taken finished 0 (pair 7 8) one_life.completed_then one_life.share_then
     one_life.shares_early 2048 (omega arith))
 
@@ -199,7 +199,7 @@ every_byte =
           ∙ ap (λ C. to_each class (λ j. ready C (ready_four (order class) (lowest_for class then C) j)))
           (ap (λ c. matrix_in class (bytes_in c)) (sym its-ready.3) ∙ matrix_is)
           ∙ ap readies_of one_life.lowest
-          ∙ readies-are;
+          ∙ readies_are;
       of_the_echo = by_kind twice (gets 2 said_2 2048) Nothing (ap (λ ks. get_or ks 13 Nothing) kinds);
       of_the_second_send = by_kind echoed (gets 1 first 2048) Nothing (ap (λ ks. get_or ks 15 Nothing) kinds);
       of_the_command =
@@ -209,5 +209,5 @@ every_byte =
           (sym command.5
           ∙ ap (λ s. (slot_at (after class finished) (place_in s)).pair.kept) (sym command.4 ∙ one_life.completed_then)
           ∙ one_life.share_then))
-          ∙ shares-are;
+          ∙ shares_are;
     }

@@ -16,7 +16,7 @@ use Rattle.rules.specs.Laws.RoundTrip.{SetUpFits}
 use Rattle.rules.proofs.Laws.RoundTrip.{message_formed, message_ours, message_there, matrix_part, matrix_there}
 use Rattle.demands.specs.Terms.Histories.{own, keeps}
 use Rattle.demands.specs.Hiding.Moves.{Twice, numbers, in_set, dealt, zed, moved_message}
-use Rattle.demands.specs.Hiding.Hypotheses.{Given, dealer_box, own_fits, zed-on-set}
+use Rattle.demands.specs.Hiding.Hypotheses.{Given, dealer_box, own_fits, zed_on_set}
 use Rattle.demands.specs.Hiding.Unseen.{four_still}
 use Rattle.demands.specs.Hiding.SentTwice.{Proper, moved_tag, proper_fits, moved_proper}
 
@@ -65,7 +65,7 @@ module _ (t : Twice) (h : Given t) (i from : ℕ) where
         Still m = exponents_keep (numbers t) m ≡ true → m ≡ moved_message t from i m
 
         none : zed t from * zed t i ≡ 0
-        none = ap (λ v. v * zed t i) (zed-on-set t h from b (in_set_lem b)) ∙ omega arith
+        none = ap (λ v. v * zed t i) (zed_on_set t h from b (in_set_lem b)) ∙ omega arith
 
     pub forged : Arrives t i from bytes bytes
     forged =
@@ -100,9 +100,9 @@ module _ (t : Twice) (h : Given t) (i from : ℕ) where
   unfolding foreign bytes_of
   own_ours m = message_ours (numbers t) m fits_setup
 
-  pub handed-on : (m : Message) → Proper t from m
+  pub handed_on : (m : Message) → Proper t from m
       → Arrives t i from (bytes_of (numbers t) m) (bytes_of (numbers t) (moved_message t from i m))
-  handed-on m p =
+  handed_on m p =
       let u = numbers t in
       let m' : Message = moved_message t from i m in
       let p' : Proper t from m' = moved_proper t h from i m p in

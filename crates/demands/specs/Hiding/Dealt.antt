@@ -64,7 +64,7 @@ module _ (t : Twice) (h : Given t) where
 
   -- ---- the two steps
 
-  module _ (i : ℕ) (x : Record) (own-setup : x.setup ≡ own (numbers t) i) where
+  module _ (i : ℕ) (x : Record) (own_setup : x.setup ≡ own (numbers t) i) where
     below : (j : ℕ) → polynomials_below (q t) (numbers t).k (dealt_to (numbers t) t.s t.coins j) ≡ true
     below j = (send_passes (numbers t) (sound_numbers t h) t.s t.coins h.coins_keep_lem j).1
 
@@ -81,9 +81,9 @@ module _ (t : Twice) (h : Given t) where
             tag = 1;
             one_tag = λ j. refl;
             proper = λ j. (e, refl, below j, dealt_fit t.s t.coins j);
-            first = (deal_sends x t.s t.coins).1 ∙ (rw own-setup (own_each (numbers t) i _));
+            first = (deal_sends x t.s t.coins).1 ∙ (rw own_setup (own_each (numbers t) i _));
             second = (deal_sends (moved_record t i x) t.s' (coins' t)).1
-                ∙ (rw own-setup (own_each (numbers t) i _ ∙ each_same (numbers t) _ _ (λ j.
+                ∙ (rw own_setup (own_each (numbers t) i _ ∙ each_same (numbers t) _ _ (λ j.
                 ap₂ (λ C P. bytes_of (numbers t) (send C P)) (same_matrix_lem t h) (polynomials_moved j))));
           });
         }
@@ -101,12 +101,12 @@ module _ (t : Twice) (h : Given t) where
 
     own_keep : (s : ℕ) (cs : List ℕ) → coins_keep x.setup s cs ≡ coins_keep (numbers t) s cs
     unfolding coins_keep
-    own_keep s cs = rw own-setup
+    own_keep s cs = rw own_setup
 
     by_dealer : (buffer : List ℕ) → first_of (deal_rows x t.s t.coins (length buffer)) ≡ 0 → i ≡ (numbers t).d
     by_dealer buffer e =
         eqb-true i (numbers t).d
-        (subst (λ (u : SetUp). eqb u.i u.d ≡ true) own-setup (deal_passed x t.s t.coins (length buffer) e).dealer)
+        (subst (λ (u : SetUp). eqb u.i u.d ≡ true) own_setup (deal_passed x t.s t.coins (length buffer) e).dealer)
 
     pub deal_alike : sound x ≡ true → sound (moved_record t i x) ≡ true → (buffer : List ℕ)
         → DoneAlike t i (deal x t.s t.coins buffer) (deal (moved_record t i x) t.s' (coins' t) buffer)

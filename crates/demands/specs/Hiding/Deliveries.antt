@@ -31,10 +31,10 @@ use Rattle.rules.proofs.Laws.RoundTrip.{by_tag, is_send_lem, is_echo_lem, is_rea
 use Rattle.rules.specs.Laws.Passed.{Passed}
 use Rattle.rules.proofs.Laws.Passed.{rows_passed}
 use Rattle.demands.specs.Terms.Histories.{own}
-use Rattle.demands.specs.Hiding.Moves.{Twice, numbers, in_set, dealt, zed, moved_message, moved_record, slot-moved, moved_four}
+use Rattle.demands.specs.Hiding.Moves.{Twice, numbers, in_set, dealt, zed, moved_message, moved_record, slot_moved, moved_four}
 use Rattle.demands.specs.Hiding.Hypotheses.{Given}
 use Rattle.demands.specs.Hiding.Unseen.{point_unseen, polynomials_unseen}
-use Rattle.demands.specs.Hiding.Steps.{MovedStep, matrix-moved, send_moved, Ripe, point_step_moved}
+use Rattle.demands.specs.Hiding.Steps.{MovedStep, matrix_moved, send_moved, Ripe, point_step_moved}
 use Rattle.demands.specs.Hiding.Outcomes.{DoneAlike, answered_alike, row_alike, call_alike}
 use Rattle.demands.specs.Hiding.Arrivals.{Arrives}
 use Rattle.demands.specs.Own.{own_matrix, own_message, own_exponents}
@@ -54,7 +54,7 @@ RipeIfSent t x from bytes =
 
 -- ---- the rows of the table
 
-module _ (t : Twice) (h : Given t) (i : ℕ) (x : Record) (own-setup : x.setup ≡ own (numbers t) i) where
+module _ (t : Twice) (h : Given t) (i : ℕ) (x : Record) (own_setup : x.setup ≡ own (numbers t) i) where
   abbrev x' : Record
   x' = moved_record t i x
 
@@ -62,12 +62,12 @@ module _ (t : Twice) (h : Given t) (i : ℕ) (x : Record) (own-setup : x.setup �
   share_checks_lem NotYet m s = refl
   share_checks_lem (With r) m s =
       ap (λ (C : List (List Element)). share_check (group_in x) x.setup.k C m s)
-      (ap matrix_of (slot-moved t i x r) ∙ matrix-moved t i (slot_at x r))
+      (ap matrix_of (slot_moved t i x r) ∙ matrix_moved t i (slot_at x r))
 
   checks_moved : (from : ℕ) (msg : Message) → checks x' from (moved_message t from i msg) ≡ checks x from msg
-  checks_moved from (send C P) = rw own-setup (polynomials_unseen t h C i i P)
-  checks_moved from (echo C f) = rw own-setup (point_unseen t h C i from (zed t from * zed t i) f)
-  checks_moved from (ready C f) = rw own-setup (point_unseen t h C i from (zed t from * zed t i) f)
+  checks_moved from (send C P) = rw own_setup (polynomials_unseen t h C i i P)
+  checks_moved from (echo C f) = rw own_setup (point_unseen t h C i from (zed t from * zed t i) f)
+  checks_moved from (ready C f) = rw own_setup (point_unseen t h C i from (zed t from * zed t i) f)
   checks_moved from (recovery s) = share_checks_lem x.progress.completion from s
 
   own_keeps : (bytes : List ℕ) → exponents_keep (own (numbers t) i) (message_in (own (numbers t) i) bytes) ≡ exponents_keep (numbers t) (message_in (numbers t) bytes)
@@ -75,20 +75,20 @@ module _ (t : Twice) (h : Given t) (i : ℕ) (x : Record) (own-setup : x.setup �
 
   own_box : (from : ℕ) → is_box x.setup from ≡ is_box (numbers t) from
   unfolding is_box
-  own_box from = rw own-setup
+  own_box from = rw own_setup
 
   module _ (from : ℕ) (bytes bytes' : List ℕ) (a : Arrives t i from bytes bytes') where
     -- what the message says goes by the session's numbers, not by the box's own
     form_same : malformed x.setup bytes ≡ malformed x.setup bytes'
     unfolding malformed whole_length
-    form_same = rw own-setup (sym a.form)
+    form_same = rw own_setup (sym a.form)
 
     matrix_same : matrix_in x.setup bytes ≡ matrix_in x.setup bytes'
     unfolding matrix_in
-    matrix_same = rw own-setup (sym a.matrix)
+    matrix_same = rw own_setup (sym a.matrix)
 
     exponents_same : exponents_keep x.setup (message_in x.setup bytes) ≡ exponents_keep x.setup (message_in x.setup bytes')
-    exponents_same = rw own-setup (own_keeps bytes ∙ sym a.exponents ∙ sym (own_keeps bytes'))
+    exponents_same = rw own_setup (own_keeps bytes ∙ sym a.exponents ∙ sym (own_keeps bytes'))
 
     said_moved : is_box x.setup from ≡ true → (tag_in bytes ≡ 1 → from ≡ x.setup.d)
         → exponents_keep x.setup (message_in x.setup bytes) ≡ true
@@ -99,7 +99,7 @@ module _ (t : Twice) (h : Given t) (i : ℕ) (x : Record) (own-setup : x.setup �
         (λ (u : SetUp). is_box u from ≡ true → (tag_in bytes ≡ 1 → from ≡ u.d)
         → exponents_keep u (message_in u bytes) ≡ true
         → message_in u bytes' ≡ moved_message t from i (message_in u bytes))
-        (sym own-setup)
+        (sym own_setup)
         (λ box dealer keeps.
         own_message (numbers t) i bytes' ∙ a.says box dealer (sym (own_keeps bytes) ∙ keeps) ∙ ap (moved_message t from i) (sym (own_message (numbers t) i bytes)))
 
@@ -115,7 +115,7 @@ module _ (t : Twice) (h : Given t) (i : ℕ) (x : Record) (own-setup : x.setup �
         call_alike x _ (length buffer) _ _ hx hy
         (row_alike _ _ _ _ refl refl refl (λ z1.
         row_alike _ _ _ _ refl refl form_same (λ z2.
-        row_alike _ _ _ _ refl refl (rw own-setup (sym a.session)) (λ z3.
+        row_alike _ _ _ _ refl refl (rw own_setup (sym a.session)) (λ z3.
         row_alike _ _ _ _ refl refl (ap (λ v. eqb v 1 and not (eqb from x.setup.d)) tag) (λ z4.
         row_alike _ _ _ _ refl refl (ap (λ v. eqb v 4 and not (is_done x.progress.completion and x.progress.commanded)) tag) (λ z5.
         row_alike _ _ _ _ refl refl (ap (λ v. eqb v 4 and is_there x.recovered.kept) tag) (λ z6.
@@ -142,12 +142,12 @@ module _ (t : Twice) (h : Given t) (i : ℕ) (x : Record) (own-setup : x.setup �
       send_takes : tag_in bytes ≡ 1 → Takes (send (matrix_in x.setup bytes) (polynomials_in x.setup bytes))
       unfolding Takes heard
       send_takes e =
-          let dealer : from ≡ (numbers t).d = c.hearing.dealer e ∙ ap (λ (u : SetUp). u.d) own-setup in
+          let dealer : from ≡ (numbers t).d = c.hearing.dealer e ∙ ap (λ (u : SetUp). u.d) own_setup in
           let D : matrix_in x.setup bytes ≡ dealt t =
-          ap (λ (u : SetUp). matrix_in u bytes) own-setup ∙ own_matrix (numbers t) i bytes
+          ap (λ (u : SetUp). matrix_in u bytes) own_setup ∙ own_matrix (numbers t) i bytes
           ∙ ⊎_elim (λ w. absurd (true≢false (sym w ∙ ap (in_set t) dealer ∙ h.dealer))) (λ w. w)
           (a.whose (sym (own_box from) ∙ c.hearing.box) (omega arith)) in
-          rw D (send_moved t h i (heard x 1 (from - 1)) own-setup (polynomials_in x.setup bytes))
+          rw D (send_moved t h i (heard x 1 (from - 1)) own_setup (polynomials_in x.setup bytes))
 
       point_takes : (b : Side) → tag_in bytes ≡ ear b + 1
           → MovedStep t i (point_step b (heard x (ear b + 1) (from - 1)) (from - 1) (matrix_in x.setup bytes) (four_in x.setup bytes))
@@ -155,7 +155,7 @@ module _ (t : Twice) (h : Given t) (i : ℕ) (x : Record) (own-setup : x.setup �
       unfolding heard slot_for own_slot free_slot
       point_takes b e =
           rw (← swapped)
-          (point_step_moved t h i (heard x (ear b + 1) (from - 1)) own-setup (from - 1) (matrix_in x.setup bytes) (four_in x.setup bytes) b
+          (point_step_moved t h i (heard x (ear b + 1) (from - 1)) own_setup (from - 1) (matrix_in x.setup bytes) (four_in x.setup bytes) b
           (ripe b e))
 
       -- no recovery share is taken

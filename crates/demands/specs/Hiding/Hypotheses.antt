@@ -68,8 +68,8 @@ module _ (t : Twice) (h : Given t) where
   -- ---- the matching coins
 
   -- z is 0 at a box of the set
-  pub zed-on-set : (m : ℕ) → is_box (numbers t) m ≡ true → in_set t m ≡ true → zed t m ≡ 0
-  zed-on-set m b e =
+  pub zed_on_set : (m : ℕ) → is_box (numbers t) m ≡ true → in_set t m ≡ true → zed t m ≡ 0
+  zed_on_set m b e =
       let w = is_box_lem (numbers t) m b in
       z_on_set (numbers t) sound_numbers (in_set t) h.few t.s t.s' h.low h.low' m w.0 w.1 e
 

@@ -136,9 +136,9 @@ module _ (t : Twice) where
 
   -- ---- what stands where
 
-  pub slot-moved : (i : ℕ) (x : Record) (s : ℕ) → slot_at (moved_record i x) s ≡ moved_slot i (slot_at x s)
+  pub slot_moved : (i : ℕ) (x : Record) (s : ℕ) → slot_at (moved_record i x) s ≡ moved_slot i (slot_at x s)
   unfolding moved_slot map_from
-  slot-moved i x s = get_or-map (moved_slot i) x.slots s no_slot
+  slot_moved i x s = get_or-map (moved_slot i) x.slots s no_slot
 
   pub place_moved : (i : ℕ) (slot : Slot) (m : ℕ) → place_at (moved_slot i slot) m ≡ moved_place i m (place_at slot m)
   unfolding moved_slot

@@ -40,7 +40,7 @@ use Rattle.demands.specs.Lives.Took.{sends_now, slot_sent}
 use Rattle.demands.specs.Lives.Deliveries.{has_passed, out_message}
 use Rattle.demands.specs.Lives.Born.{good, facts_at}
 use Rattle.demands.specs.Lives.Points.{points_differ}
-use Rattle.demands.specs.Lives.Readies.{enough, used-there}
+use Rattle.demands.specs.Lives.Readies.{enough, used_there}
 use Rattle.demands.specs.Hiding.Moves.{Twice, numbers, in_set, dealt}
 use Rattle.demands.specs.Hiding.Hypotheses.{Given, size, own_taken}
 use Rattle.demands.specs.Hiding.Steps.{Ripe}
@@ -149,7 +149,7 @@ module _ (t : Twice) (h : Given t) (i : ℕ) (box-i : is_box (numbers t) i ≡ t
       many = enough me slot facts there
 
       used : slot.used ≡ true
-      used = used-there me slot facts (let low = (size t h).low in omega arith) there
+      used = used_there me slot facts (let low = (size t h).low in omega arith) there
 
       -- whose point it is
       of : (m : ℕ) → m < 10 → held slot m ≡ true → same_matrix k (matrix_of slot) (dealt t) ≡ false

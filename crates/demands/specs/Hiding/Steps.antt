@@ -32,7 +32,7 @@ use Rattle.rules.specs.declared.Side.TheVariants.{ByEcho, ByReady}
 use Rattle.rules.proofs.Laws.Kept.OpenSlot.{fresh}
 use Rattle.demands.specs.Terms.Histories.{own}
 use Rattle.demands.specs.Terms.Dealing.{Different}
-use Rattle.demands.specs.Hiding.Moves.{Twice, numbers, q, dealt, zed, moved_four, moved_pair, moved_polynomials, moved_point, moved_place, moved_said, moved_slot, moved_record, slot-moved, place_moved, lowest_moved}
+use Rattle.demands.specs.Hiding.Moves.{Twice, numbers, q, dealt, zed, moved_four, moved_pair, moved_polynomials, moved_point, moved_place, moved_said, moved_slot, moved_record, slot_moved, place_moved, lowest_moved}
 use Rattle.demands.specs.Hiding.Hypotheses.{Given, q_some}
 use Rattle.demands.specs.Hiding.Values.{echo_moved, ready_moved, pair_moved}
 use Rattle.demands.specs.Hiding.SentTwice.{Twin}
@@ -57,17 +57,17 @@ quiet_moved t i x = record { after = refl; sent = refl; completed = refl; recove
 -- ---- parts of a moved record
 
 module _ (t : Twice) (i : ℕ) where
-  pub matrix-moved : (slot : Slot) → matrix_of (moved_slot t i slot) ≡ matrix_of slot
+  pub matrix_moved : (slot : Slot) → matrix_of (moved_slot t i slot) ≡ matrix_of slot
   unfolding matrix_of moved_slot
-  matrix-moved slot = refl
+  matrix_moved slot = refl
 
-  pub e-moved : (slot : Slot) → count_e (moved_slot t i slot) ≡ count_e slot
+  pub e_moved : (slot : Slot) → count_e (moved_slot t i slot) ≡ count_e slot
   unfolding count_e moved_slot
-  e-moved slot = refl
+  e_moved slot = refl
 
-  pub r-moved : (slot : Slot) → count_r (moved_slot t i slot) ≡ count_r slot
+  pub r_moved : (slot : Slot) → count_r (moved_slot t i slot) ≡ count_r slot
   unfolding count_r moved_slot
-  r-moved slot = refl
+  r_moved slot = refl
 
   pub used_moved : (slot : Slot) → (moved_slot t i slot).used ≡ slot.used
   unfolding moved_slot
@@ -83,12 +83,12 @@ module _ (t : Twice) (i : ℕ) where
   unfolding own_slot
   own_slot_lem x C =
       first_from_same _ _ (λ s.
-      ap (λ (v : Slot). v.used and same_matrix x.setup.k (matrix_of v) C) (slot-moved t i x s)
-      ∙ ap₂ (λ b D. b and same_matrix x.setup.k D C) (used_moved (slot_at x s)) (matrix-moved (slot_at x s))) 20 0
+      ap (λ (v : Slot). v.used and same_matrix x.setup.k (matrix_of v) C) (slot_moved t i x s)
+      ∙ ap₂ (λ b D. b and same_matrix x.setup.k D C) (used_moved (slot_at x s)) (matrix_moved (slot_at x s))) 20 0
 
   free_slot_lem : (x : Record) → free_slot (moved_record t i x) ≡ free_slot x
   unfolding free_slot
-  free_slot_lem x = first_from_same _ _ (λ s. ap (λ (v : Slot). not v.used) (slot-moved t i x s) ∙ ap not (used_moved (slot_at x s))) 20 0
+  free_slot_lem x = first_from_same _ _ (λ s. ap (λ (v : Slot). not v.used) (slot_moved t i x s) ∙ ap not (used_moved (slot_at x s))) 20 0
 
   slot_for_lem : (x : Record) (C : List (List Element)) → slot_for (moved_record t i x) C ≡ slot_for x C
   unfolding slot_for
@@ -181,7 +181,7 @@ module _ (t : Twice) (h : Given t) (i : ℕ) where
             proper = λ j. (refl, ready_below (q t) (q_some t h) ps j);
             first = own_each (numbers t) i _ ∙ each_same (numbers t) _ _ (λ j. ready_bytes (numbers t) _ _ _ ripe.1);
             second = own_each (numbers t) i _ ∙ each_same (numbers t) _ _ (λ j.
-                ap₂ (λ C f. bytes_of (numbers t) (ready C f)) (matrix-moved t i slot) (ready_moved t h i ps ripe.0 j)
+                ap₂ (λ C f. bytes_of (numbers t) (ready C f)) (matrix_moved t i slot) (ready_moved t h i ps ripe.0 j)
                 ∙ ready_bytes (numbers t) _ _ _ ripe.1);
           });
         })
@@ -196,12 +196,12 @@ module _ (t : Twice) (h : Given t) (i : ℕ) where
         (record { after = refl; sent = refl; completed = refl; recovered = refl; bytes = inl (refl, refl) })
 
     due_moved : (b : Side) → ready_due x.setup b (moved_slot t i slot) ≡ ready_due x.setup b slot
-    due_moved ByEcho = rw (e-moved t i slot, r-moved t i slot)
-    due_moved ByReady = rw (e-moved t i slot, r-moved t i slot)
+    due_moved ByEcho = rw (e_moved t i slot, r_moved t i slot)
+    due_moved ByReady = rw (e_moved t i slot, r_moved t i slot)
 
     completion_moved : (b : Side) → completion_due x.setup b (moved_slot t i slot) ≡ completion_due x.setup b slot
     completion_moved ByEcho = refl
-    completion_moved ByReady = rw (r-moved t i slot)
+    completion_moved ByReady = rw (r_moved t i slot)
 
     point_at_lem : (b : Side) → (ready_due x.setup b slot ≡ true → Ripe t slot)
         → MovedStep t i (point_at b x s slot) (point_at b (moved_record t i x) s (moved_slot t i slot))
@@ -219,7 +219,7 @@ module _ (t : Twice) (h : Given t) (i : ℕ) where
     open_here : opened C (slot_at (moved_record t i x) (slot_for (moved_record t i x) C)) ≡ moved_slot t i (opened C (slot_at x here))
     open_here =
         ap (λ (s : ℕ). opened C (slot_at (moved_record t i x) s)) (slot_for_lem t i x C)
-        ∙ ap (opened C) (slot-moved t i x here)
+        ∙ ap (opened C) (slot_moved t i x here)
         ∙ opened_moved t i C (slot_at x here)
 
     abbrev pub RipeAt : Side → Type 0

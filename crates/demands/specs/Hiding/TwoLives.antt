@@ -103,9 +103,9 @@ module _ (t : Twice) (h : Given t) (i : ℕ) (box-i : is_box (numbers t) i ≡ t
   unfolding new_record moved_slot map_from zero_slot
   new_moved = refl
 
-  pub both-new : Both t i [] []
+  pub both_new : Both t i [] []
   unfolding after answers sendings Honest new_record
-  both-new =
+  both_new =
       let new = born u (own_taken t h i box-i) in
       record {
         same = new ∙ new_moved ∙ ap (moved_record t i) (sym new);
@@ -133,8 +133,8 @@ module _ (t : Twice) (h : Given t) (i : ℕ) (box-i : is_box (numbers t) i ≡ t
     abbrev x : Record
     x = after u cs
 
-    own-setup : x.setup ≡ u
-    own-setup = (life_sound u (own_taken t h i box-i) cs).2
+    own_setup : x.setup ≡ u
+    own_setup = (life_sound u (own_taken t h i box-i) cs).2
 
     is_sound : sound x ≡ true
     is_sound = (life_sound u (own_taken t h i box-i) cs).0
@@ -142,43 +142,43 @@ module _ (t : Twice) (h : Given t) (i : ℕ) (box-i : is_box (numbers t) i ≡ t
     moved_sound : sound (moved_record t i x) ≡ true
     moved_sound = subst (λ (y : Record). sound y ≡ true) w.same (life_sound u (own_taken t h i box-i) cs').0
 
-    pub both-deals : (lent : ℕ) → Both t i (deals t.s t.coins lent ∷ cs) (deals t.s' (coins' t) lent ∷ cs')
+    pub both_deals : (lent : ℕ) → Both t i (deals t.s t.coins lent ∷ cs) (deals t.s' (coins' t) lent ∷ cs')
     unfolding doing Honest
-    both-deals lent =
+    both_deals lent =
         more cs cs' (deals t.s t.coins lent) (deals t.s' (coins' t) lent) w
-        (deal_alike t h i x own-setup is_sound moved_sound (replicate lent 0))
+        (deal_alike t h i x own_setup is_sound moved_sound (replicate lent 0))
         w.honest
 
-    pub both-refused : (s : ℕ) (l : List ℕ) (lent : ℕ) → coins_keep (numbers t) s l ≡ false → Both t i (deals s l lent ∷ cs) (deals s l lent ∷ cs')
+    pub both_refused : (s : ℕ) (l : List ℕ) (lent : ℕ) → coins_keep (numbers t) s l ≡ false → Both t i (deals s l lent ∷ cs) (deals s l lent ∷ cs')
     unfolding doing Honest
-    both-refused s l lent bad =
+    both_refused s l lent bad =
         more cs cs' (deals s l lent) (deals s l lent) w
-        (refused_alike t h i x own-setup is_sound moved_sound s l (replicate lent 0) bad)
+        (refused_alike t h i x own_setup is_sound moved_sound s l (replicate lent 0) bad)
         w.honest
 
-    pub both-gets : (from : ℕ) (bytes bytes' : List ℕ) (lent : ℕ) → Arrives t i from bytes bytes' → x.progress.commanded ≡ false
+    pub both_gets : (from : ℕ) (bytes bytes' : List ℕ) (lent : ℕ) → Arrives t i from bytes bytes' → x.progress.commanded ≡ false
         → Both t i (gets from bytes lent ∷ cs) (gets from bytes' lent ∷ cs')
     unfolding doing Honest
-    both-gets from bytes bytes' lent a unmarked =
+    both_gets from bytes bytes' lent a unmarked =
         more cs cs' (gets from bytes lent) (gets from bytes' lent) w
-        (deliver_alike t h i x own-setup from bytes bytes' a is_sound moved_sound (replicate lent 0)
+        (deliver_alike t h i x own_setup from bytes bytes' a is_sound moved_sound (replicate lent 0)
         (ripe_if_sent t h i box-i cs from lent bytes (a.whose, w.honest)) unmarked)
         (a.whose, w.honest)
 
-    pub both-commanded : (lent : ℕ) → (after u (commanded lent ∷ cs)).progress.commanded ≡ false
+    pub both_commanded : (lent : ℕ) → (after u (commanded lent ∷ cs)).progress.commanded ≡ false
         → Both t i (commanded lent ∷ cs) (commanded lent ∷ cs')
     unfolding doing after Honest
-    both-commanded lent unmarked =
+    both_commanded lent unmarked =
         more cs cs' (commanded lent) (commanded lent) w
         (recover_alike t i x is_sound moved_sound (replicate lent 0) unmarked)
         w.honest
 
   -- ---- a message that it has sent
 
-  pub both-sent : (cs cs' : List Call) → Both t i cs cs' → (to place : ℕ) → is_box (numbers t) to ≡ true
+  pub both_sent : (cs cs' : List Call) → Both t i cs cs' → (to place : ℕ) → is_box (numbers t) to ≡ true
       → Sent t i to (message_at u cs to place) (message_at u cs' to place)
   unfolding message_at
-  both-sent cs cs' w to place b =
+  both_sent cs cs' w to place b =
       let n : length (sendings u cs) ≡ length (sendings u cs') = twins_length t i _ _ w.sent in
       rw (← n) (go (ltb place (length (sendings u cs))) refl)
     where

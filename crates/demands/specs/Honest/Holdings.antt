@@ -40,10 +40,10 @@ use Rattle.demands.specs.Sharing.{size, points_give}
 use Rattle.demands.specs.Own.{own_taken}
 use Rattle.demands.specs.Terms.Lives.{checks_now, takes_now, four_of, said}
 use Rattle.demands.specs.Lives.{places_say}
-use Rattle.demands.specs.Lives.Slots.{slot_of, slot-used}
-use Rattle.demands.specs.Lives.Born.{good, own-setup, numbers_keep_lem, facts_at}
+use Rattle.demands.specs.Lives.Slots.{slot_of, slot_used}
+use Rattle.demands.specs.Lives.Born.{good, own_setup, numbers_keep_lem, facts_at}
 use Rattle.demands.specs.Lives.Counts.{first_cases}
-use Rattle.demands.specs.Lives.Readies.{used-there, said_differ, pair_holds}
+use Rattle.demands.specs.Lives.Readies.{used_there, said_differ, pair_holds}
 use Rattle.demands.specs.Honest.Messages.{Dealt, sound, matrix_room, agree_equal}
 
 -- ---- a life in which what was accepted was dealt
@@ -71,8 +71,8 @@ module _ (u : SetUp) (secret : ℕ) (coins : List ℕ) (h : Deal u secret coins)
   abbrev me : SetUp
   me = own u i
 
-  pub is-taken : (set_up (own u i)).answer.no ≡ 0
-  is-taken = own_taken u h.group_keeps_lem h.numbers_keep_lem i box-i
+  pub is_taken : (set_up (own u i)).answer.no ≡ 0
+  is_taken = own_taken u h.group_keeps_lem h.numbers_keep_lem i box-i
 
   abbrev C₀ : List (List Element)
   C₀ = dealt_matrix u secret coins
@@ -98,7 +98,7 @@ module _ (u : SetUp) (secret : ℕ) (coins : List ℕ) (h : Deal u secret coins)
       let e3 = and_right (eqb (tag_in bytes) (ear b + 1)) _ e2 in
       let sender : from ≡ m = eqb-true from m (and_left _ _ e1) in
       let parts = point_parts b from bytes (eqb-true (tag_in bytes) (ear b + 1) (and_left _ _ e2)) (dealt (eqb-true _ 0 (and_left _ _ e))) in
-      let set_up_lem = own-setup me is-taken cs in
+      let set_up_lem = own_setup me is_taken cs in
       let same : same_matrix u.k (matrix_in u bytes) D ≡ true =
       subst (λ (v : SetUp). same_matrix v.k (matrix_in v bytes) D ≡ true) set_up_lem e3 in (
         subst (λ (C : List (List Element)). same_matrix u.k C D ≡ true) parts.0 same,
@@ -137,25 +137,25 @@ module _ (u : SetUp) (secret : ℕ) (coins : List ℕ) (h : Deal u secret coins)
     slot = slot_at (after me cs) s
 
     facts : SlotFacts me slot
-    facts = facts_at me is-taken cs s l
+    facts = facts_at me is_taken cs s l
 
     -- a held place says what was dealt, for the dealt matrix
     place_says : (m : ℕ) (f : Four) → m < 10 → (place_at slot m).point ≡ Held f
         → (same_matrix u.k C₀ (matrix_of slot) ≡ true) × (f ≡ dealt_point u secret coins (m + 1) i)
     place_says m f lm e =
         let used = facts.in_use ∙ any_below_here (held slot) 10 m lm (ap is_held e) in
-        said_dealt cs dealt (m + 1) (matrix_of slot) f (sym (places_say me is-taken cs s m l lm used) ∙ e)
+        said_dealt cs dealt (m + 1) (matrix_of slot) f (sym (places_say me is_taken cs s m l lm used) ∙ e)
 
-    pub point-dealt : (m : ℕ) (f : Four) → m < 10 → (place_at (slot_at (after (own u i) cs) s) m).point ≡ Held f
+    pub point_dealt : (m : ℕ) (f : Four) → m < 10 → (place_at (slot_at (after (own u i) cs) s) m).point ≡ Held f
         → f ≡ dealt_point u secret coins (m + 1) i
-    point-dealt m f lm e = (place_says m f lm e).1
+    point_dealt m f lm e = (place_says m f lm e).1
 
     -- a slot in use has a held place
-    pub matrix-dealt : (slot_at (after (own u i) cs) s).used ≡ true → matrix_of (slot_at (after (own u i) cs) s) ≡ dealt_matrix u secret coins
-    matrix-dealt used =
+    pub matrix_dealt : (slot_at (after (own u i) cs) s).used ≡ true → matrix_of (slot_at (after (own u i) cs) s) ≡ dealt_matrix u secret coins
+    matrix_dealt used =
         let some = any_below_some (held slot) 10 (sym facts.in_use ∙ used) in
         let f = held_some (place_at slot some.0).point some.2 in
-        let room = slot_room u h.group_keeps_lem (size u (sound u secret coins h)).high slot ((good me is-taken cs).shape.slot s l)
+        let room = slot_room u h.group_keeps_lem (size u (sound u secret coins h)).high slot ((good me is_taken cs).shape.slot s l)
         facts.contents.zero (facts.contents.passes used) in
         sym (agree_equal u.k C₀ (matrix_of slot) (matrix_room u secret coins h) room (place_says some.0 f.0 some.1 f.1).0)
 
@@ -171,18 +171,18 @@ module _ (u : SetUp) (secret : ℕ) (coins : List ℕ) (h : Deal u secret coins)
       × (pair_from (order u) (take u.k (points (slot_of (after me cs) D).places)) ≡ dealt_share u secret coins i)
   unfolding f_of f'_of from_coins
   slot_gives cs dealt D there =
-      points_give me (numbers_keep_lem me is-taken) secret coins coins_own i _
-      (said_differ me is-taken D (λ m f. f ≡ dealt_point u secret coins m i) cs (λ m f e. (said_dealt cs dealt m D f e).1) there)
+      points_give me (numbers_keep_lem me is_taken) secret coins coins_own i _
+      (said_differ me is_taken D (λ m f. f ≡ dealt_point u secret coins m i) cs (λ m f e. (said_dealt cs dealt m D f e).1) there)
 
   module _ (cs : List Call) (dealt : LifeDealt u secret coins i cs) (s : ℕ) (l : s < 20)
       (there : is_there (slot_at (after (own u i) cs) s).pair.kept ≡ true) where
     pub used_then : (slot_at (after (own u i) cs) s).used ≡ true
     used_then =
         let low = (size u (sound u secret coins h)).low in
-        used-there me (slot_at (after me cs) s) (facts cs dealt s l) (omega arith) there
+        used_there me (slot_at (after me cs) s) (facts cs dealt s l) (omega arith) there
 
     here : slot_of (after me cs) (matrix_of (slot_at (after me cs) s)) ≡ slot_at (after me cs) s
-    here = slot-used (after me cs) (good me is-taken cs) s l used_then
+    here = slot_used (after me cs) (good me is_taken cs) s l used_then
 
     pub ready_dealt : (j : ℕ)
         → ready_four (order u) (take u.k (points (slot_at (after (own u i) cs) s).places)) j ≡ dealt_point u secret coins i j
@@ -190,8 +190,8 @@ module _ (u : SetUp) (secret : ℕ) (coins : List ℕ) (h : Deal u secret coins)
         ap (λ (w : Slot). ready_four (order u) (take u.k (points w.places)) j) (sym here)
         ∙ (slot_gives cs dealt _ (ap (λ (w : Slot). is_there w.pair.kept) here ∙ there)).0 j
 
-    pub pair-dealt : (p : Pair) → (slot_at (after (own u i) cs) s).pair.kept ≡ There p → p ≡ dealt_share u secret coins i
-    pair-dealt p e =
-        pair_holds me is-taken (matrix_of (slot_at (after me cs) s)) (λ v. v ≡ dealt_share u secret coins i) cs
+    pub pair_dealt : (p : Pair) → (slot_at (after (own u i) cs) s).pair.kept ≡ There p → p ≡ dealt_share u secret coins i
+    pair_dealt p e =
+        pair_holds me is_taken (matrix_of (slot_at (after me cs) s)) (λ v. v ≡ dealt_share u secret coins i) cs
         (λ now q kept passes. (slot_gives now (life_past u secret coins i now cs q dealt) _ kept).1) p
         (ap (λ (w : Slot). w.pair.kept) here ∙ e)

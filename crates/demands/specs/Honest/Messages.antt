@@ -97,9 +97,9 @@ module _ (u : SetUp) (secret : ℕ) (coins : List ℕ) where
         (pair_below_lem (order u) (dealt_share u secret coins from) (value_below (order u) u.k P.a 0 q) (value_below (order u) u.k P.a2 0 q))
 
     -- of what a box sent to each, box `to` reads what was dealt
-    pub comes-dealt : (from to : ℕ) → is_box u to ≡ true → (run : List ℕ) → SentDealt from run
+    pub comes_dealt : (from to : ℕ) → is_box u to ≡ true → (run : List ℕ) → SentDealt from run
         → Dealt from to (message_in u (message_to u.n run to))
-    comes-dealt from to box-to run (kind, sent, dealer) =
+    comes_dealt from to box-to run (kind, sent, dealer) =
         let b = is_box_lem u to box-to in
         let bytes : message_to u.n run to ≡ bytes_of u (dealt_message kind from to) =
         ap (λ (r : List ℕ). message_to u.n r to) sent

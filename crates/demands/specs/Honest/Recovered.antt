@@ -28,7 +28,7 @@ use Rattle.demands.specs.Terms.Lives.{share_now, share_said}
 use Rattle.demands.specs.Lives.{shares_say, recovered_from_lem}
 use Rattle.demands.specs.Lives.Born.{numbers_keep_lem}
 use Rattle.demands.specs.Lives.Recovered.{recovered_differ}
-use Rattle.demands.specs.Honest.Holdings.{CallDealt, LifeDealt, life_before, is-taken, coins_own}
+use Rattle.demands.specs.Honest.Holdings.{CallDealt, LifeDealt, life_before, is_taken, coins_own}
 
 module _ (u : SetUp) (secret : ℕ) (coins : List ℕ) (h : Deal u secret coins) (i : ℕ) (box-i : is_box u i ≡ true) where
   abbrev me : SetUp
@@ -61,10 +61,10 @@ module _ (u : SetUp) (secret : ℕ) (coins : List ℕ) (h : Deal u secret coins)
       (λ not-now. said_share cs (life_before u secret coins i _ cs dealt) m p)
       e
 
-  pub share-dealt : (cs : List Call) → LifeDealt u secret coins i cs → (m : ℕ) (p : Pair) → m < 10
+  pub share_dealt : (cs : List Call) → LifeDealt u secret coins i cs → (m : ℕ) (p : Pair) → m < 10
       → share_at (after (own u i) cs).shares m ≡ There p → p ≡ dealt_share u secret coins (m + 1)
-  share-dealt cs dealt m p l e =
-      said_share cs dealt (m + 1) p (sym (shares_say me (is-taken u secret coins h i box-i) cs m l) ∙ e)
+  share_dealt cs dealt m p l e =
+      said_share cs dealt (m + 1) p (sym (shares_say me (is_taken u secret coins h i box-i) cs m l) ∙ e)
 
   -- ---- the pair recovered
 
@@ -72,10 +72,10 @@ module _ (u : SetUp) (secret : ℕ) (coins : List ℕ) (h : Deal u secret coins)
   abbrev Secret : Pair → Type 0
   Secret p = (p.first.0 ≡ secret) × (p.second.0 ≡ get_or coins (u.k * u.k - 1) 0)
 
-  pub recovered-dealt : (cs : List Call) → LifeDealt u secret coins i cs → (p : Pair) → (after (own u i) cs).recovered.kept ≡ There p → Secret p
+  pub recovered_dealt : (cs : List Call) → LifeDealt u secret coins i cs → (p : Pair) → (after (own u i) cs).recovered.kept ≡ There p → Secret p
   unfolding f_of f'_of from_coins
-  recovered-dealt cs dealt p e =
-      let up = is-taken u secret coins h i box-i in
+  recovered_dealt cs dealt p e =
+      let up = is_taken u secret coins h i box-i in
       subst Secret (sym (recovered_from_lem me up cs p e))
       (shares_give me (numbers_keep_lem me up) secret coins (coins_own u secret coins h i box-i) (share_points (after me cs).shares)
-      (recovered_differ me up (λ m v. v ≡ dealt_share u secret coins m) p cs e (share-dealt cs dealt)))
+      (recovered_differ me up (λ m v. v ≡ dealt_share u secret coins m) p cs e (share_dealt cs dealt)))

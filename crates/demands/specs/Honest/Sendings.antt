@@ -32,10 +32,10 @@ use Rattle.demands.specs.Histories.{past_self}
 use Rattle.demands.specs.Terms.Dealing.{order, dealt_matrix, dealt_to}
 use Rattle.demands.specs.Own.{own_each}
 use Rattle.demands.specs.Lives.{completed_kept}
-use Rattle.demands.specs.Lives.Born.{good, own-setup}
+use Rattle.demands.specs.Lives.Born.{good, own_setup}
 use Rattle.demands.specs.Lives.Origins.{Spoken, spoken, wrote_some}
 use Rattle.demands.specs.Honest.Messages.{SentDealt, a_send, a_point, a_share}
-use Rattle.demands.specs.Honest.Holdings.{CallDealt, LifeDealt, life_before, is-taken, matrix-dealt, used_then, ready_dealt, pair-dealt}
+use Rattle.demands.specs.Honest.Holdings.{CallDealt, LifeDealt, life_before, is_taken, matrix_dealt, used_then, ready_dealt, pair_dealt}
 
 module _ (u : SetUp) (secret : ℕ) (coins : List ℕ) (h : Deal u secret coins) (i : ℕ) (box-i : is_box u i ≡ true) where
   abbrev me : SetUp
@@ -63,8 +63,8 @@ module _ (u : SetUp) (secret : ℕ) (coins : List ℕ) (h : Deal u secret coins)
         pair_sent : (v : Kept) → (slot_at x s).pair.kept ≡ v → run ≡ share_bytes me v → SentDealt u secret coins i run
         pair_sent Absent w e = absurd (some e)
         pair_sent (There p) w e =
-            let is = pair-dealt u secret coins h i box-i cs (life_before u secret coins i c cs dealt) s
-            (completed_kept me (is-taken u secret coins h i box-i) cs s q).0 (ap is_there w) p w in
+            let is = pair_dealt u secret coins h i box-i cs (life_before u secret coins i c cs dealt) s
+            (completed_kept me (is_taken u secret coins h i box-i) cs s q).0 (ap is_there w) p w in
             (a_share, e ∙ ap (λ (v : Pair). to_each me (λ j. recovery v)) is ∙ own_each u i _, λ z. absurd (omega arith))
 
     sends : (what : Sent) → Spoken me x c what run → SentDealt u secret coins i run
@@ -88,19 +88,19 @@ module _ (u : SetUp) (secret : ℕ) (coins : List ℕ) (h : Deal u secret coins)
           λ z. absurd (omega arith),
         )
     sends Ready (s, l, there, is, sender, lent, bytes, e, has) =
-        let C = matrix-dealt u secret coins h i box-i (c ∷ cs) dealt s l (used_then u secret coins h i box-i (c ∷ cs) dealt s l there) in
+        let C = matrix_dealt u secret coins h i box-i (c ∷ cs) dealt s l (used_then u secret coins h i box-i (c ∷ cs) dealt s l there) in
         let f = ready_dealt u secret coins h i box-i (c ∷ cs) dealt s l there in
         (a_point ByReady, is ∙ ap (to_each me) (λ a j. ready (C a) (f j a)) ∙ own_each u i _, λ z. absurd (omega arith))
     sends Recovery (is, done, lent, e) = share_sent x.progress.completion refl is
 
   -- ---- all that it has sent
 
-  pub sendings-dealt : (cs : List Call) → LifeDealt u secret coins i cs → Every (SentDealt u secret coins i) [] (sendings (own u i) cs)
+  pub sendings_dealt : (cs : List Call) → LifeDealt u secret coins i cs → Every (SentDealt u secret coins i) [] (sendings (own u i) cs)
   unfolding sendings
-  sendings-dealt [] dealt = every_nil (SentDealt u secret coins i) []
-  sendings-dealt (c ∷ cs) dealt =
+  sendings_dealt [] dealt = every_nil (SentDealt u secret coins i) []
+  sendings_dealt (c ∷ cs) dealt =
       let x = after me cs in
-      every_append (SentDealt u secret coins i) [] (sendings me cs) _ (sendings-dealt cs (life_before u secret coins i c cs dealt))
+      every_append (SentDealt u secret coins i) [] (sendings me cs) _ (sendings_dealt cs (life_before u secret coins i c cs dealt))
       (pick-either (Every (SentDealt u secret coins i) []) (eqb (doing x c).outcome.answer.bytes 0) [] (wrote (doing x c) ∷ [])
       (λ e. every_nil (SentDealt u secret coins i) [])
       (λ e.
@@ -108,5 +108,5 @@ module _ (u : SetUp) (secret : ℕ) (coins : List ℕ) (h : Deal u secret coins)
       every_cons (SentDealt u secret coins i) [] (wrote (doing x c)) []
       (sends c cs dealt w.0 (wrote (doing x c)) w.1 (doing x c).outcome.answer.sent
       (subst (λ (v : SetUp). Spoken v x c (doing x c).outcome.answer.sent (wrote (doing x c)))
-      (own-setup me (is-taken u secret coins h i box-i) cs) (spoken x (good me (is-taken u secret coins h i box-i) cs) c)))
+      (own_setup me (is_taken u secret coins h i box-i) cs) (spoken x (good me (is_taken u secret coins h i box-i) cs) c)))
       (every_nil (SentDealt u secret coins i) [])))

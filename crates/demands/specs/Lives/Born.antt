@@ -47,10 +47,10 @@ module _ (u : SetUp) (taken : (set_up u).answer.no ≡ 0) where
   pub turn_at : (cs : List Call) (c : Call) → Turn (after u cs) c
   turn_at cs c = turn (after u cs) (good cs) c
 
-  pub own-setup : (cs : List Call) → (after u cs).setup ≡ u
+  pub own_setup : (cs : List Call) → (after u cs).setup ≡ u
   unfolding after new_record
-  own-setup [] = ap (λ (x : Record). x.setup) born
-  own-setup (c ∷ cs) = (turn_at cs c).turned.setup ∙ own-setup cs
+  own_setup [] = ap (λ (x : Record). x.setup) born
+  own_setup (c ∷ cs) = (turn_at cs c).turned.setup ∙ own_setup cs
 
   -- at first nothing is held for any matrix
   pub slot_born : (D : List (List Element)) → slot_of (after u []) D ≡ zero_slot
@@ -63,11 +63,11 @@ module _ (u : SetUp) (taken : (set_up u).answer.no ≡ 0) where
   unfolding numbers_keep
   numbers_keep_lem =
       let facts = (good []).facts in
-      let n : numbers_keep u ≡ true = subst (λ (v : SetUp). numbers_keep v ≡ true) (own-setup []) facts.numbers in
+      let n : numbers_keep u ≡ true = subst (λ (v : SetUp). numbers_keep v ≡ true) (own_setup []) facts.numbers in
       record {
-        group_keeps_lem = subst (λ (v : SetUp). group_keeps v ≡ true) (own-setup []) facts.group;
+        group_keeps_lem = subst (λ (v : SetUp). group_keeps v ≡ true) (own_setup []) facts.group;
         sizes_keep_lem = and_left _ _ n;
       }
 
   pub facts_at : (cs : List Call) (s : ℕ) → s < 20 → SlotFacts u (slot_at (after u cs) s)
-  facts_at cs s l = subst (λ (v : SetUp). SlotFacts v (slot_at (after u cs) s)) (own-setup cs) ((good cs).facts.slots.each s l)
+  facts_at cs s l = subst (λ (v : SetUp). SlotFacts v (slot_at (after u cs) s)) (own_setup cs) ((good cs).facts.slots.each s l)

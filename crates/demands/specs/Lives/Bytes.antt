@@ -21,8 +21,8 @@ use Rattle.demands.specs.Terms.Histories.{Call, doing, after, wrote}
 use Rattle.demands.specs.Terms.Dealing.{order}
 use Rattle.demands.specs.Terms.Lives.{lowest_for, Sends}
 use Rattle.demands.specs.Lives.Slots.{Has, own_is, there_some}
-use Rattle.demands.specs.Lives.Born.{good, own-setup}
-use Rattle.demands.specs.Lives.Completed.{done-kept}
+use Rattle.demands.specs.Lives.Born.{good, own_setup}
+use Rattle.demands.specs.Lives.Completed.{done_kept}
 use Rattle.demands.specs.Lives.Origins.{ready_of, Spoken, spoken}
 use Rattle.demands.specs.Own.{each_same, ready_bytes}
 
@@ -42,7 +42,7 @@ module _ (u : SetUp) (set_up_lem : (set_up u).answer.no ≡ 0) (cs : List Call) 
   module _ (C : List (List Element)) (s : ℕ) (has : Has y C s) where
     own_ready : to_each u (ready_of u (slot_at y s)) ≡ to_each u (λ j. ready C (ready_four (order u) (lowest_for u y C) j))
     own_ready =
-        let own = own-setup u set_up_lem (c ∷ cs) in
+        let own = own_setup u set_up_lem (c ∷ cs) in
         each_same u _ _ (λ j. ready_bytes u (matrix_of (slot_at y s)) C _ (rw own at has.agrees))
         ∙ ap (λ (r : ℕ). to_each u (λ j. ready C (ready_four (order u) (take u.k (points (slot_at y r).places)) j)))
         (sym (own_is y (good u set_up_lem (c ∷ cs)) C s has))
@@ -59,7 +59,7 @@ module _ (u : SetUp) (set_up_lem : (set_up u).answer.no ≡ 0) (cs : List Call) 
   by_kind Ready t = (t.4, t.5, t.6, t.7, t.3 ∙ own_ready (matrix_in u t.6) t.0 t.8)
   by_kind Recovery t =
       let done = done_with x.progress.completion t.1 in
-      let kept = there_some _ (done-kept u set_up_lem done.0 cs done.1).1 in (
+      let kept = there_some _ (done_kept u set_up_lem done.0 cs done.1).1 in (
         done.0,
         t.2,
         kept.0,
@@ -72,4 +72,4 @@ module _ (u : SetUp) (set_up_lem : (set_up u).answer.no ≡ 0) (cs : List Call) 
   pub every_byte : Sends u cs c d.outcome.answer.sent (wrote d)
   every_byte =
       by_kind d.outcome.answer.sent
-      (subst (λ (v : SetUp). Spoken v x c d.outcome.answer.sent (wrote d)) (own-setup u set_up_lem cs) (spoken x (good u set_up_lem cs) c))
+      (subst (λ (v : SetUp). Spoken v x c d.outcome.answer.sent (wrote d)) (own_setup u set_up_lem cs) (spoken x (good u set_up_lem cs) c))

@@ -29,7 +29,7 @@ use Rattle.rules.proofs.Laws.Lengths.{take-written}
 use Rattle.demands.specs.Terms.Histories.{Call, deals, commanded, doing, after, answers}
 use Rattle.demands.specs.Terms.Dealing.{sends_of}
 use Rattle.demands.specs.Terms.Lives.{is_send, is_recovery, how_many, Writes}
-use Rattle.demands.specs.Lives.Born.{good, own-setup}
+use Rattle.demands.specs.Lives.Born.{good, own_setup}
 use Rattle.demands.specs.Lives.Marks.{dealt_counts, commanded_counts}
 
 -- ---- the sends of a deal
@@ -87,22 +87,22 @@ module _ (u : SetUp) (set_up_lem : (set_up u).answer.no ≡ 0) (cs : List Call) 
   all_sound = facts_sound x (good u set_up_lem cs).facts
 
   own : x.setup ≡ u
-  own = own-setup u set_up_lem cs
+  own = own_setup u set_up_lem cs
 
-  pub first-deal : u.i ≡ u.d → how_many (λ (a : Answer). is_send a.sent) (answers u cs) ≡ 0
+  pub first_deal : u.i ≡ u.d → how_many (λ (a : Answer). is_send a.sent) (answers u cs) ≡ 0
       → (secret : ℕ) (coins : List ℕ) → coins_keep u secret coins ≡ true
       → Writes (doing x (deals secret coins lent)) Send (sends_of u secret coins)
   unfolding doing deal
-  first-deal dealer undealt secret coins keep =
+  first_deal dealer undealt secret coins keep =
       let n = deal_taken x all_sound lent long secret coins (rw own dealer) (dealt_counts u set_up_lem cs ∙ ap (ltb 0) undealt) (rw own keep) in
       let sends = deal_sends x secret coins in
       writes _ (deal_step x secret coins) x (replicate lent 0) Send _ n sends.0 (sends.1 ∙ ap (λ (v : SetUp). sends_of v secret coins) own)
 
-  pub first-command : (s : ℕ) (p : Pair) → x.progress.completion ≡ With s → (slot_at x s).pair.kept ≡ There p
+  pub first_command : (s : ℕ) (p : Pair) → x.progress.completion ≡ With s → (slot_at x s).pair.kept ≡ There p
       → how_many (λ (a : Answer). is_recovery a.sent) (answers u cs) ≡ 0
       → Writes (doing x (commanded lent)) Recovery (to_each u (λ j. recovery p))
   unfolding doing recover recover_step
-  first-command s p done kept uncommanded =
+  first_command s p done kept uncommanded =
       let n = command_taken x all_sound lent long (ap is_done done) (commanded_counts u set_up_lem cs ∙ ap (ltb 0) uncommanded) in
       writes _ (recover_step x) x (replicate lent 0) Recovery _ n refl
       (ap (λ (c : Completion). share_bytes x.setup (completed_share x c)) done

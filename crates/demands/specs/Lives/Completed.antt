@@ -27,9 +27,9 @@ use Rattle.rules.proofs.Laws.Kept.TakenSlot.{count_is, count_up}
 use Rattle.demands.specs.Terms.Histories.{Call, after}
 use Rattle.demands.specs.Sharing.{size}
 use Rattle.demands.specs.Terms.Lives.{kept_for}
-use Rattle.demands.specs.Lives.Slots.{slot_of, kept_of, slot_shape, slot-used, there_some}
+use Rattle.demands.specs.Lives.Slots.{slot_of, kept_of, slot_shape, slot_used, there_some}
 use Rattle.demands.specs.Lives.Seen.{View, Touched, aside, touched, view}
-use Rattle.demands.specs.Lives.Born.{good, own-setup, slot_born, turn_at, numbers_keep_lem}
+use Rattle.demands.specs.Lives.Born.{good, own_setup, slot_born, turn_at, numbers_keep_lem}
 use Rattle.demands.specs.Lives.Readies.{kept_on}
 use Rattle.demands.specs.Lives.Once.{done_stays}
 
@@ -89,7 +89,7 @@ module _ (u : SetUp) (set_up_lem : (set_up u).answer.no ≡ 0) where
             let now = r_took c cs ByReady m f sends t in
             let up = count_up ByReady (slot_of x D) (slot_shape x (good u set_up_lem cs) D) m t.low f t.new in
             let due = due_then (taken ByReady (slot_of x D) m f) (omega arith) in
-            let own = own-setup u set_up_lem cs in
+            let own = own_setup u set_up_lem cs in
             t.completes (t.slot.test ∙ (rw own due.0)) (rw own due.1)
 
   -- ---- its share is the pair kept for its matrix
@@ -99,9 +99,9 @@ module _ (u : SetUp) (set_up_lem : (set_up u).answer.no ≡ 0) where
   done_used s cs e = let done = (good u set_up_lem cs).facts.progress.completion s e in (done.within, done.used)
 
   -- and has a pair
-  pub done-kept : (s : ℕ) (cs : List Call) → (after u cs).progress.completion ≡ With s
+  pub done_kept : (s : ℕ) (cs : List Call) → (after u cs).progress.completion ≡ With s
       → (s < 20) × (is_there (slot_at (after u cs) s).pair.kept ≡ true)
-  done-kept s cs e =
+  done_kept s cs e =
       let x = after u cs in
       let facts = (good u set_up_lem cs).facts in
       let done = facts.progress.completion s e in
@@ -109,34 +109,34 @@ module _ (u : SetUp) (set_up_lem : (set_up u).answer.no ≡ 0) where
       let enough = le-leb x.setup.k (count_r (slot_at x s)) (omega arith) in
       (done.within, (facts.slots.each s done.within).right ∙ or_right (leb (echo_quorum x.setup) (count_e (slot_at x s))) _ enough)
 
-  pub share-kept : (s : ℕ) (cs : List Call) → (after u cs).progress.completion ≡ With s
+  pub share_kept : (s : ℕ) (cs : List Call) → (after u cs).progress.completion ≡ With s
       → kept_for (after u cs) (matrix_of (slot_at (after u cs) s)) ≡ (slot_at (after u cs) s).pair.kept
-  share-kept s cs e =
+  share_kept s cs e =
       let h = done_used s cs e in
       kept_of (after u cs) (matrix_of (slot_at (after u cs) s))
-      ∙ ap (λ (w : Slot). w.pair.kept) (slot-used (after u cs) (good u set_up_lem cs) s h.0 h.1)
+      ∙ ap (λ (w : Slot). w.pair.kept) (slot_used (after u cs) (good u set_up_lem cs) s h.0 h.1)
 
   -- ---- it stays
 
   module _ (s : ℕ) (cs : List Call) (done : (after u cs).progress.completion ≡ With s) where
-    pub completion-on : (later : List Call) → (after u (later ++ cs)).progress.completion ≡ With s
+    pub completion_on : (later : List Call) → (after u (later ++ cs)).progress.completion ≡ With s
     unfolding after
-    completion-on [] = done
-    completion-on (c ∷ later) = (turn_at u set_up_lem (later ++ cs) c).turned.still s (completion-on later)
+    completion_on [] = done
+    completion_on (c ∷ later) = (turn_at u set_up_lem (later ++ cs) c).turned.still s (completion_on later)
 
-    pub matrix-on : (later : List Call) → matrix_of (slot_at (after u (later ++ cs)) s) ≡ matrix_of (slot_at (after u cs) s)
+    pub matrix_on : (later : List Call) → matrix_of (slot_at (after u (later ++ cs)) s) ≡ matrix_of (slot_at (after u cs) s)
     unfolding after
-    matrix-on [] = refl
-    matrix-on (c ∷ later) =
-        ((turn_at u set_up_lem (later ++ cs) c).turned.stays s (done_used s (later ++ cs) (completion-on later)).1).1 ∙ matrix-on later
+    matrix_on [] = refl
+    matrix_on (c ∷ later) =
+        ((turn_at u set_up_lem (later ++ cs) c).turned.stays s (done_used s (later ++ cs) (completion_on later)).1).1 ∙ matrix_on later
 
-    pub share-on : (later : List Call) → (slot_at (after u (later ++ cs)) s).pair.kept ≡ (slot_at (after u cs) s).pair.kept
-    share-on later =
+    pub share_on : (later : List Call) → (slot_at (after u (later ++ cs)) s).pair.kept ≡ (slot_at (after u cs) s).pair.kept
+    share_on later =
         let M = matrix_of (slot_at (after u cs) s) in
-        let kept = there_some _ (done-kept s cs done).1 in
-        let then : (slot_of (after u cs) M).pair.kept ≡ There kept.0 = sym (kept_of (after u cs) M) ∙ share-kept s cs done ∙ kept.1 in
-        sym (share-kept s (later ++ cs) (completion-on later))
-        ∙ ap (kept_for (after u (later ++ cs))) (matrix-on later)
+        let kept = there_some _ (done_kept s cs done).1 in
+        let then : (slot_of (after u cs) M).pair.kept ≡ There kept.0 = sym (kept_of (after u cs) M) ∙ share_kept s cs done ∙ kept.1 in
+        sym (share_kept s (later ++ cs) (completion_on later))
+        ∙ ap (kept_for (after u (later ++ cs))) (matrix_on later)
         ∙ kept_of (after u (later ++ cs)) M
         ∙ kept_on u set_up_lem M cs kept.0 later then
         ∙ sym kept.1

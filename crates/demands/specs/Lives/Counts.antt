@@ -29,11 +29,11 @@ use Rattle.rules.proofs.Laws.Kept.OpenSlot.{zero-silent, zero_unmarked}
 use Rattle.demands.specs.Terms.Histories.{Call, after}
 use Rattle.demands.specs.Terms.Dealing.{group}
 use Rattle.demands.specs.Terms.Lives.{checks_now, checked, takes_now, four_of, said, e_of, r_of}
-use Rattle.demands.specs.Lives.Slots.{slot_of, e_of_lem, r-of, slot_shape}
+use Rattle.demands.specs.Lives.Slots.{slot_of, e_of_lem, r_of_lem, slot_shape}
 use Rattle.demands.specs.Lives.Took.{taken_mark, taken_point}
 use Rattle.demands.specs.Lives.Turns.{next}
 use Rattle.demands.specs.Lives.Seen.{View, aside, touched, view}
-use Rattle.demands.specs.Lives.Born.{good, own-setup, slot_born}
+use Rattle.demands.specs.Lives.Born.{good, own_setup, slot_born}
 
 -- a first point is the one that was there, or the one that came
 pub first_cases : (p : Point) (g f : Four) → first_point p g ≡ Held f → (p ≡ Held f) ⊎ (g ≡ f)
@@ -58,20 +58,20 @@ module _ (u : SetUp) (set_up_lem : (set_up u).answer.no ≡ 0) (D : List (List E
           ∙ taken_mark (slot_of (after u cs) D) (slot_shape (after u cs) (good u set_up_lem cs) D) m i t.low a b f
           ∙ ap₂ ◌or◌ (sym (t.checked (ear a + 1) (i + 1))) ih
 
-  pub e-is : (cs : List Call) → e_of (after u cs) D ≡ count_below 10 (λ m. checked u cs 2 (m + 1) D)
+  pub e_is : (cs : List Call) → e_of (after u cs) D ≡ count_below 10 (λ m. checked u cs 2 (m + 1) D)
   unfolding count_e
-  e-is cs = e_of_lem (after u cs) D ∙ count_below_same _ _ 10 (λ i l. marks_are ByEcho i l cs)
+  e_is cs = e_of_lem (after u cs) D ∙ count_below_same _ _ 10 (λ i l. marks_are ByEcho i l cs)
 
-  pub r-is : (cs : List Call) → r_of (after u cs) D ≡ count_below 10 (λ m. checked u cs 3 (m + 1) D)
+  pub r_is : (cs : List Call) → r_of (after u cs) D ≡ count_below 10 (λ m. checked u cs 3 (m + 1) D)
   unfolding count_r
-  r-is cs = r-of (after u cs) D ∙ count_below_same _ _ 10 (λ i l. marks_are ByReady i l cs)
+  r_is cs = r_of_lem (after u cs) D ∙ count_below_same _ _ 10 (λ i l. marks_are ByReady i l cs)
 
   -- ---- the points held
 
-  pub points-are : (i : ℕ) → i < 10 → (cs : List Call) → (place_at (slot_of (after u cs) D) i).point ≡ said u cs (i + 1) D
+  pub points_are : (i : ℕ) → i < 10 → (cs : List Call) → (place_at (slot_of (after u cs) D) i).point ≡ said u cs (i + 1) D
   unfolding after said
-  points-are i l [] = ap (λ (w : Slot). (place_at w i).point) (slot_born u set_up_lem D) ∙ ap (λ (p : Place). p.point) (zero-silent i l)
-  points-are i l (c ∷ cs) = go (view (after u cs) (good u set_up_lem cs) c D) (points-are i l cs)
+  points_are i l [] = ap (λ (w : Slot). (place_at w i).point) (slot_born u set_up_lem D) ∙ ap (λ (p : Place). p.point) (zero-silent i l)
+  points_are i l (c ∷ cs) = go (view (after u cs) (good u set_up_lem cs) c D) (points_are i l cs)
     where
       go : View (after u cs) c D → (place_at (slot_of (after u cs) D) i).point ≡ said u cs (i + 1) D
           → (place_at (slot_of (next (after u cs) c) D) i).point
@@ -85,10 +85,10 @@ module _ (u : SetUp) (set_up_lem : (set_up u).answer.no ≡ 0) (D : List (List E
           (sym t.four)
 
   -- what was said passed the point check
-  pub said-passes : (m : ℕ) (f : Four) (cs : List Call) → said u cs m D ≡ Held f → point_check (group u) u.k D u.i m f ≡ true
+  pub said_passes : (m : ℕ) (f : Four) (cs : List Call) → said u cs m D ≡ Held f → point_check (group u) u.k D u.i m f ≡ true
   unfolding said
-  said-passes m f [] e = let z : ◌≡◌ {A = ℕ} 0 1 = cc in absurd (omega arith)
-  said-passes m f (c ∷ cs) e = go (view (after u cs) (good u set_up_lem cs) c D) (said-passes m f cs) e
+  said_passes m f [] e = let z : ◌≡◌ {A = ℕ} 0 1 = cc in absurd (omega arith)
+  said_passes m f (c ∷ cs) e = go (view (after u cs) (good u set_up_lem cs) c D) (said_passes m f cs) e
     where
       now : ℕ → Four → Type 0
       now i h = point_check (group u) u.k D u.i i h ≡ true
@@ -100,7 +100,7 @@ module _ (u : SetUp) (set_up_lem : (set_up u).answer.no ≡ 0) (D : List (List E
           ⊎_elim
           (λ q.
           ⊎_elim ih
-          (λ r. subst₂ now (eqb-true (i + 1) m q) r (rw (own-setup u set_up_lem cs) at t.check))
+          (λ r. subst₂ now (eqb-true (i + 1) m q) r (rw (own_setup u set_up_lem cs) at t.check))
           (first_cases (said u cs m D) h f
           (ap (first_point (said u cs m D)) (sym t.four)
           ∙ sym (pick_true _ (first_point (said u cs m D) (four_of (after u cs) c)) (said u cs m D) (t.takes m ∙ q))

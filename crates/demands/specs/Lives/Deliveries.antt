@@ -271,7 +271,7 @@ turn x g (gets sender bytes lent) = turn_gets x g sender bytes lent
 turn x g (commanded lent) = turn_commanded x g lent
 
 -- A checked send has its echo.
-pub has-echo : (x : Record) → Good x → (sender lent : ℕ) (bytes : List ℕ) → tag_in bytes ≡ 1
+pub has_echo : (x : Record) → Good x → (sender lent : ℕ) (bytes : List ℕ) → tag_in bytes ≡ 1
     → (doing x (gets sender bytes lent)).outcome.answer.no ≡ 0 → (doing x (gets sender bytes lent)).outcome.answer.sent ≡ Echo
 unfolding doing deliver answered
-has-echo x g sender lent bytes h e = send_echoes x g sender bytes lent (sym (outcome_number _ _ _) ∙ e) h
+has_echo x g sender lent bytes h e = send_echoes x g sender bytes lent (sym (outcome_number _ _ _) ∙ e) h

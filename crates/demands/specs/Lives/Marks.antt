@@ -79,16 +79,16 @@ module _ (u : SetUp) (set_up_lem : (set_up u).answer.no ≡ 0) where
   pub dealt_counts : (cs : List Call) → (after u cs).progress.dealt ≡ ltb 0 (how_many (λ (a : Answer). is_send a.sent) (answers u cs))
   dealt_counts = mark_counts is_send (λ (v : Progress). v.dealt) new_progress.0 (λ x c t. t.turned.marks.dealt)
 
-  pub deal-once : (cs : List Call) → how_many (λ (a : Answer). is_send a.sent) (answers u cs) ≤ 1
-  deal-once cs = one_at_most _ (after u cs).progress.dealt (marks_once is_send (λ (v : Progress). v.dealt) new_progress.0 (λ x c t. t.turned.marks.dealt) cs)
+  pub deal_once : (cs : List Call) → how_many (λ (a : Answer). is_send a.sent) (answers u cs) ≤ 1
+  deal_once cs = one_at_most _ (after u cs).progress.dealt (marks_once is_send (λ (v : Progress). v.dealt) new_progress.0 (λ x c t. t.turned.marks.dealt) cs)
 
   -- a box is marked once it was commanded, and takes one command
   pub commanded_counts : (cs : List Call)
       → (after u cs).progress.commanded ≡ ltb 0 (how_many (λ (a : Answer). is_recovery a.sent) (answers u cs))
   commanded_counts = mark_counts is_recovery (λ (v : Progress). v.commanded) new_progress.1 (λ x c t. t.turned.marks.commanded)
 
-  pub command-once : (cs : List Call) → how_many (λ (a : Answer). is_recovery a.sent) (answers u cs) ≤ 1
-  command-once cs =
+  pub command_once : (cs : List Call) → how_many (λ (a : Answer). is_recovery a.sent) (answers u cs) ≤ 1
+  command_once cs =
       one_at_most _ (after u cs).progress.commanded (marks_once is_recovery (λ (v : Progress). v.commanded) new_progress.1 (λ x c t. t.turned.marks.commanded) cs)
 
   -- ---- neither goes back

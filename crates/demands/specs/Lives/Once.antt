@@ -19,7 +19,7 @@ use Rattle.demands.specs.Terms.Histories.{Call, doing, after, answers}
 use Rattle.demands.specs.Terms.Lives.{is_echo, how_many}
 use Rattle.demands.specs.Lives.Stepped.{Stays}
 use Rattle.demands.specs.Lives.Turns.{next}
-use Rattle.demands.specs.Lives.Born.{own-setup, turn_at}
+use Rattle.demands.specs.Lives.Born.{own_setup, turn_at}
 
 -- ---- a test that turns once
 
@@ -54,12 +54,12 @@ module _ (u : SetUp) (set_up_lem : (set_up u).answer.no ≡ 0) where
       told_up _ (is_echo (doing (after u cs) c).outcome.answer.sent)
       (hears (after u cs) 0 (u.d - 1)) (hears (next (after u cs) c) 0 (u.d - 1))
       (λ e. subst (λ (v : SetUp). (hears (after u cs) 0 (v.d - 1) ≡ false) × (hears (next (after u cs) c) 0 (v.d - 1) ≡ true))
-      (own-setup u set_up_lem cs) (t.echoes e))
+      (own_setup u set_up_lem cs) (t.echoes e))
       (t.ears 0 (u.d - 1))
       (echoes_heard cs)
 
-  pub echo-once : (cs : List Call) → how_many (λ (a : Answer). is_echo a.sent) (answers u cs) ≤ 1
-  echo-once cs = one_at_most _ (hears (after u cs) 0 (u.d - 1)) (echoes_heard cs)
+  pub echo_once : (cs : List Call) → how_many (λ (a : Answer). is_echo a.sent) (answers u cs) ≤ 1
+  echo_once cs = one_at_most _ (hears (after u cs) 0 (u.d - 1)) (echoes_heard cs)
 
   -- ---- completion
 
@@ -75,5 +75,5 @@ module _ (u : SetUp) (set_up_lem : (set_up u).answer.no ≡ 0) where
       (done_stays _ _ t.still)
       (completions_done cs)
 
-  pub complete-once : (cs : List Call) → how_many (λ (a : Answer). a.completed) (answers u cs) ≤ 1
-  complete-once cs = one_at_most _ (is_done (after u cs).progress.completion) (completions_done cs)
+  pub complete_once : (cs : List Call) → how_many (λ (a : Answer). a.completed) (answers u cs) ≤ 1
+  complete_once cs = one_at_most _ (is_done (after u cs).progress.completion) (completions_done cs)

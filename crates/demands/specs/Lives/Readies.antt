@@ -37,8 +37,8 @@ use Rattle.demands.specs.Histories.{past_self, past_more}
 use Rattle.demands.specs.Lives.Slots.{slot_of, slot_facts, slot_shape}
 use Rattle.demands.specs.Lives.Turns.{next}
 use Rattle.demands.specs.Lives.Seen.{ready_now, View, aside, touched, view}
-use Rattle.demands.specs.Lives.Born.{good, own-setup, slot_born, numbers_keep_lem}
-use Rattle.demands.specs.Lives.Counts.{points-are, said-passes}
+use Rattle.demands.specs.Lives.Born.{good, own_setup, slot_born, numbers_keep_lem}
+use Rattle.demands.specs.Lives.Counts.{points_are, said_passes}
 use Rattle.demands.specs.Lives.Points.{points_differ}
 
 -- ---- no pair yet
@@ -80,8 +80,8 @@ enough u w c e =
     (or_cases (leb (echo_quorum u) (count_e w)) (leb u.k (count_r w)) (sym c.right ∙ e))
 
 -- and the slot is in use
-pub used-there : (u : SetUp) (w : Slot) → SlotFacts u w → 1 ≤ u.k → is_there w.pair.kept ≡ true → w.used ≡ true
-used-there u w c l e =
+pub used_there : (u : SetUp) (w : Slot) → SlotFacts u w → 1 ≤ u.k → is_there w.pair.kept ≡ true → w.used ≡ true
+used_there u w c l e =
     ⊎_elim (λ h. h)
     (λ h.
     let many = enough u w c e in
@@ -121,30 +121,30 @@ module _ (u : SetUp) (set_up_lem : (set_up u).answer.no ≡ 0) (D : List (List E
       go (aside t) = left t.ready (ap (λ (w : Slot). w.pair.kept) t.slot)
       go (touched b m f true t) =
           made t.ready
-          (subst (λ (v : SetUp). matrix_passes (group v) v.k D ≡ true) (own-setup u set_up_lem cs) t.passes)
+          (subst (λ (v : SetUp). matrix_passes (group v) v.k D ≡ true) (own_setup u set_up_lem cs) t.passes)
           (none_before_lem x.setup b m f (slot_of x D) (slot_shape x (good u set_up_lem cs) D)
           (slot_facts x (good u set_up_lem cs) D).right
           t.low t.new (sym t.slot.test))
           (subst (λ (v : SetUp). (slot_of (next x c) D).pair.kept
           ≡ There (pair_from (order v) (take v.k (points (slot_of (next x c) D).places))))
-          (own-setup u set_up_lem cs) t.slot.pair)
+          (own_setup u set_up_lem cs) t.slot.pair)
       go (touched b m f false t) = left t.ready t.slot.pair
 
   -- ready was sent once if a pair is kept, and else never
-  pub readies-are : (cs : List Call) → readies_sent u cs D ≡ pick (is_there (kept_in cs)) 1 0
+  pub readies_are : (cs : List Call) → readies_sent u cs D ≡ pick (is_there (kept_in cs)) 1 0
   unfolding readies_sent
-  readies-are [] = rw at_first
-  readies-are (c ∷ cs) = go (pairing c cs) (readies-are cs)
+  readies_are [] = rw at_first
+  readies_are (c ∷ cs) = go (pairing c cs) (readies_are cs)
     where
       go : Pairing c cs → readies_sent u cs D ≡ pick (is_there (kept_in cs)) 1 0
           → pick (ready_now (after u cs) c D) 1 0 + readies_sent u cs D ≡ pick (is_there (kept_in (c ∷ cs))) 1 0
       go (left r e) ih = rw (r, e) (omega arith)
       go (made r m n e) ih = rw (r, e, ih, n)
 
-  pub kept-now : (c : Call) (cs : List Call) → readies_sent u (c ∷ cs) D ≡ readies_sent u cs D + 1
+  pub kept_now : (c : Call) (cs : List Call) → readies_sent u (c ∷ cs) D ≡ readies_sent u cs D + 1
       → kept_in (c ∷ cs) ≡ There (pair_from (order u) (take u.k (points (slot_of (after u (c ∷ cs)) D).places)))
   unfolding readies_sent
-  kept-now c cs h = go (pairing c cs) h
+  kept_now c cs h = go (pairing c cs) h
     where
       go : Pairing c cs → pick (ready_now (after u cs) c D) 1 0 + readies_sent u cs D ≡ readies_sent u cs D + 1
           → kept_in (c ∷ cs) ≡ There (pair_from (order u) (take u.k (points (slot_of (after u (c ∷ cs)) D).places)))
@@ -166,15 +166,15 @@ module _ (u : SetUp) (set_up_lem : (set_up u).answer.no ≡ 0) (D : List (List E
       → is_there (kept_in cs) ≡ true → Different u zero_four (take u.k (points (slot_of (after u cs) D).places)) P
   said_differ P cs each e =
       let x = after u cs in
-      let facts = subst (λ (v : SetUp). SlotFacts v (slot_of x D)) (own-setup u set_up_lem cs) (slot_facts x (good u set_up_lem cs) D) in
+      let facts = subst (λ (v : SetUp). SlotFacts v (slot_of x D)) (own_setup u set_up_lem cs) (slot_facts x (good u set_up_lem cs) D) in
       points_differ u (slot_of x D) P facts.contents.above
-      (λ m f l h. each (m + 1) f (sym (points-are u set_up_lem D m l cs) ∙ h))
+      (λ m f l h. each (m + 1) f (sym (points_are u set_up_lem D m l cs) ∙ h))
       (enough u (slot_of x D) facts e)
 
   -- they pass the point check
   pub held_differ : (cs : List Call) → is_there (kept_in cs) ≡ true
       → Different u zero_four (take u.k (points (slot_of (after u cs) D).places)) (λ m f. point_check (group u) u.k D u.i m f ≡ true)
-  held_differ cs = said_differ _ cs (λ m f. said-passes u set_up_lem D m f cs)
+  held_differ cs = said_differ _ cs (λ m f. said_passes u set_up_lem D m f cs)
 
   -- what holds, at each moment, of the pair of a slot's k lowest points holds of the pair kept
   pub pair_holds : (P : Pair → Type 0) (cs : List Call)
@@ -191,7 +191,7 @@ module _ (u : SetUp) (set_up_lem : (set_up u).answer.no ≡ 0) (D : List (List E
           let made_of : pair_from (order u) (take u.k (points (slot_of (after u (c ∷ cs)) D).places)) ≡ p = cc in
           subst P made_of (holds (c ∷ cs) (past_self (c ∷ cs)) (ap is_there e) m)
 
-  pub pair-passes : (cs : List Call) (p : Pair) → kept_in cs ≡ There p → share_check (group u) u.k D u.i p ≡ true
-  pair-passes cs p =
+  pub pair_passes : (cs : List Call) (p : Pair) → kept_in cs ≡ There p → share_check (group u) u.k D u.i p ≡ true
+  pair_passes cs p =
       pair_holds (λ v. share_check (group u) u.k D u.i v ≡ true) cs
       (λ now q there passes. (share_passes u (numbers_keep_lem u set_up_lem) D passes u.i _ (held_differ now there)).1) p

@@ -30,7 +30,7 @@ use Rattle.demands.specs.Terms.Dealing.{group, order, Different}
 use Rattle.demands.specs.Sharing.{shares_open}
 use Rattle.demands.specs.Terms.Lives.{share_now, pair_of, share_said}
 use Rattle.demands.specs.Lives.Turns.{next, Way, quiet, takes, keeps}
-use Rattle.demands.specs.Lives.Born.{born, good, turn_at, own-setup, numbers_keep_lem}
+use Rattle.demands.specs.Lives.Born.{born, good, turn_at, own_setup, numbers_keep_lem}
 use Rattle.demands.specs.Lives.Points.{shares_differ}
 
 -- what a share kept at m leaves at i
@@ -60,10 +60,10 @@ module _ (u : SetUp) (set_up_lem : (set_up u).answer.no ≡ 0) where
 
   -- ---- the shares kept
 
-  pub shares-are : (i : ℕ) → i < 10 → (cs : List Call) → share_at (after u cs).shares i ≡ share_said u cs (i + 1)
+  pub shares_are : (i : ℕ) → i < 10 → (cs : List Call) → share_at (after u cs).shares i ≡ share_said u cs (i + 1)
   unfolding after share_said
-  shares-are i l [] = ap (λ (x : Record). share_at x.shares i) (born u set_up_lem) ∙ new_share i l
-  shares-are i l (c ∷ cs) = go (turn_at u set_up_lem cs c).way (shares-are i l cs)
+  shares_are i l [] = ap (λ (x : Record). share_at x.shares i) (born u set_up_lem) ∙ new_share i l
+  shares_are i l (c ∷ cs) = go (turn_at u set_up_lem cs c).way (shares_are i l cs)
     where
       x : Record
       x = after u cs
@@ -78,13 +78,13 @@ module _ (u : SetUp) (set_up_lem : (set_up u).answer.no ≡ 0) where
 
   -- ---- the pair recovered
 
-  pub recovered-is : (p : Pair) (cs : List Call) → (after u cs).recovered.kept ≡ There p
+  pub recovered_is : (p : Pair) (cs : List Call) → (after u cs).recovered.kept ≡ There p
       → p ≡ recovered_from (order u) (share_points (after u cs).shares)
   unfolding after
-  recovered-is p [] e =
+  recovered_is p [] e =
       absurd (true≢false (sym (ap is_there e)
       ∙ ap (λ (x : Record). is_there x.recovered.kept) (born u set_up_lem) ∙ ap is_there new_recovered))
-  recovered-is p (c ∷ cs) e = go (turn_at u set_up_lem cs c).way (recovered-is p cs) e
+  recovered_is p (c ∷ cs) e = go (turn_at u set_up_lem cs c).way (recovered_is p cs) e
     where
       x : Record
       x = after u cs
@@ -98,7 +98,7 @@ module _ (u : SetUp) (set_up_lem : (set_up u).answer.no ≡ 0) where
           last : (b : Bool) → pick b (There (recovered_from (order x.setup) (share_points (sharing x m r)))) x.recovered.kept ≡ There p
               → p ≡ recovered_from (order u) (share_points (sharing x m r))
           last true h = let q : recovered_from (order x.setup) (share_points (sharing x m r)) ≡ p = cc in
-              sym q ∙ ap (λ (v : SetUp). recovered_from (order v) (share_points (sharing x m r))) (own-setup u set_up_lem cs)
+              sym q ∙ ap (λ (v : SetUp). recovered_from (order v) (share_points (sharing x m r))) (own_setup u set_up_lem cs)
           last false h = absurd (true≢false (sym (ap is_there h) ∙ k.unrecovered))
 
   -- ---- the shares pass
@@ -124,14 +124,14 @@ module _ (u : SetUp) (set_up_lem : (set_up u).answer.no ≡ 0) where
   abbrev Passes : Record → ℕ → ℕ → Pair → Type 0
   Passes x s m p = share_check (group u) u.k (matrix_of (slot_at x s)) (m + 1) p ≡ true
 
-  pub share-pass : (s m : ℕ) (p : Pair) → m < 10 → (cs : List Call) → (after u cs).progress.completion ≡ With s
+  pub share_pass : (s m : ℕ) (p : Pair) → m < 10 → (cs : List Call) → (after u cs).progress.completion ≡ With s
       → share_at (after u cs).shares m ≡ There p
       → Passes (after u cs) s m p
   unfolding after
-  share-pass s m p l [] d e =
+  share_pass s m p l [] d e =
       absurd (true≢false (sym (ap is_there e)
       ∙ ap (λ (x : Record). is_there (share_at x.shares m)) (born u set_up_lem) ∙ ap is_there (new_share m l)))
-  share-pass s m p l (c ∷ cs) d e = go (turn_at u set_up_lem cs c).way (share-pass s m p l cs)
+  share_pass s m p l (c ∷ cs) d e = go (turn_at u set_up_lem cs c).way (share_pass s m p l cs)
     where
       x : Record
       x = after u cs
@@ -159,7 +159,7 @@ module _ (u : SetUp) (set_up_lem : (set_up u).answer.no ≡ 0) where
               let here : There r ≡ There p = sym (pick_true _ (There r) (share_at x.shares m) q) ∙ is in
               let same : r ≡ p = cc in
               ap (λ (C : List (List Element)). share_check (group u) u.k C (m + 1) p) (matrix_stays cs c s was)
-              ∙ subst (λ (v : SetUp). share_check (group v) v.k (matrix_of (slot_at x s)) (m + 1) p ≡ true) (own-setup u set_up_lem cs)
+              ∙ subst (λ (v : SetUp). share_check (group v) v.k (matrix_of (slot_at x s)) (m + 1) p ≡ true) (own_setup u set_up_lem cs)
               (subst₂ (λ (j : ℕ) (v : Pair). share_check (group x.setup) x.setup.k (matrix_of (slot_at x s)) j v ≡ true)
               (eqb-true (i + 1) (m + 1) q) same (subst (λ (v : Completion). share_checks x v (i + 1) r ≡ true) was k.check))
           new (inr q) = old (sym (pick-false _ (There r) (share_at x.shares m) q) ∙ is) ih
@@ -173,21 +173,21 @@ module _ (u : SetUp) (set_up_lem : (set_up u).answer.no ≡ 0) where
   recovered_differ P p cs e each =
       let x = after u cs in
       let facts = (good u set_up_lem cs).facts in
-      let with-u = own-setup u set_up_lem cs in
+      let with-u = own_setup u set_up_lem cs in
       let all = eqb-true (shares_kept x.shares) x.setup.k (sym facts.shares.exactly ∙ ap is_there e) ∙ ap (λ (v : SetUp). v.k) with-u in
       shares_differ u x.shares P
       (λ m l h. sym (facts.shares.senders m l) ∙ facts.none m 3 l (subst (λ (v : SetUp). v.n ≤ m) (sym with-u) h) (omega arith))
       each all
 
-  pub report-open : (s : ℕ) (p : Pair) (cs : List Call) → (after u cs).progress.completion ≡ With s → (after u cs).recovered.kept ≡ There p
+  pub report_open : (s : ℕ) (p : Pair) (cs : List Call) → (after u cs).progress.completion ≡ With s → (after u cs).recovered.kept ≡ There p
       → committed (group u) p.first.0 p.second.0 ≡ entry (matrix_of (slot_at (after u cs) s)) 0 0
-  report-open s p cs d e =
+  report_open s p cs d e =
       let x = after u cs in
       let facts = (good u set_up_lem cs).facts in
       let done = facts.progress.completion s d in
       let passes = subst (λ (v : SetUp). matrix_passes (group v) v.k (matrix_of (slot_at x s)) ≡ true)
-      (own-setup u set_up_lem cs) ((facts.slots.each s done.within).contents.passes done.used) in
-      ap (λ (v : Pair). committed (group u) v.first.0 v.second.0) (recovered-is p cs e)
+      (own_setup u set_up_lem cs) ((facts.slots.each s done.within).contents.passes done.used) in
+      ap (λ (v : Pair). committed (group u) v.first.0 v.second.0) (recovered_is p cs e)
       ∙ shares_open u (numbers_keep_lem u set_up_lem) (matrix_of (slot_at x s)) passes (share_points x.shares)
       (recovered_differ (λ m v. share_check (group u) u.k (matrix_of (slot_at x s)) m v ≡ true) p cs e
-      (λ m v l h. share-pass s m v l cs d h))
+      (λ m v l h. share_pass s m v l cs d h))

@@ -49,9 +49,9 @@ module _ (x : Record) (C : List (List Element)) where
   unfolding e_of count_e count_below zero_slot
   e_of_lem = reads count_e
 
-  pub r-of : r_of x C ≡ count_r (slot_of x C)
+  pub r_of_lem : r_of x C ≡ count_r (slot_of x C)
   unfolding r_of count_r count_below zero_slot
-  r-of = reads count_r
+  r_of_lem = reads count_r
 
   pub kept_of : kept_for x C ≡ (slot_of x C).pair.kept
   unfolding kept_for zero_slot
@@ -142,8 +142,8 @@ module _ (x : Record) (g : Good x) where
       (decide (ltb (own_slot x C) 20))
 
   -- a slot in use is that of its own matrix
-  pub slot-used : (s : ℕ) → s < 20 → (slot_at x s).used ≡ true → slot_of x (matrix_of (slot_at x s)) ≡ slot_at x s
-  slot-used s l e = slot_has (matrix_of (slot_at x s)) s (record { within = l; used = e; agrees = agree_self x.setup.k _ })
+  pub slot_used : (s : ℕ) → s < 20 → (slot_at x s).used ≡ true → slot_of x (matrix_of (slot_at x s)) ≡ slot_at x s
+  slot_used s l e = slot_has (matrix_of (slot_at x s)) s (record { within = l; used = e; agrees = agree_self x.setup.k _ })
 
 -- ---- its facts
 
@@ -177,9 +177,9 @@ module _ (x : Record) (g : Good x) (C : List (List Element)) (b : Side) (m : ℕ
       (some_has x g C)
 
 -- a slot with a pair is one in use
-pub slot-there : (x : Record) (C : List (List Element)) → is_there (slot_of x C).pair.kept ≡ true → slot_of x C ≡ slot_at x (own_slot x C)
+pub slot_there : (x : Record) (C : List (List Element)) → is_there (slot_of x C).pair.kept ≡ true → slot_of x C ≡ slot_at x (own_slot x C)
 unfolding slot_of zero_slot
-slot-there x C e = go (ltb (own_slot x C) 20) e
+slot_there x C e = go (ltb (own_slot x C) 20) e
   where
     go : (b : Bool) → is_there (pick b (slot_at x (own_slot x C)) zero_slot).pair.kept ≡ true
         → pick b (slot_at x (own_slot x C)) zero_slot ≡ slot_at x (own_slot x C)

@@ -22,9 +22,9 @@ pub mod TakenSlot
 pub mod Changes
 pub mod Checked
 use Rattle.rules.proofs.Laws.Sound.{sound_facts, facts_sound}
-use OpenSlot.{matrix-fits}
-use Changes.{Good, progress-good, heard-good}
-use Checked.{point-good, recovery-good}
+use OpenSlot.{matrix_fits}
+use Changes.{Good, progress_good, heard_good}
+use Checked.{point_good, recovery_good}
 use Rattle.rules.specs.Laws.Passed.{Passed}
 use Rattle.rules.proofs.Laws.Passed.{rows_passed, deal_passed, recover_passed, marked_hearing}
 
@@ -47,7 +47,7 @@ sound_of x g = (facts_sound x g.facts, g.shape)
 deal_good : (x : Record) (secret : ℕ) (coins buffer : List ℕ) → Good x → first_of (deal_rows x secret coins (length buffer)) ≡ 0 → Good (deal_step x secret coins).after
 unfolding deal_step
 deal_good x secret coins buffer g e =
-    progress-good x _ g g.facts.progress.completion g.facts.progress.commanded (λ q. q) (λ q. (deal_passed x secret coins (length buffer) e).dealer)
+    progress_good x _ g g.facts.progress.completion g.facts.progress.commanded (λ q. q) (λ q. (deal_passed x secret coins (length buffer) e).dealer)
 
 -- The record after a deal is sound.
 pub deal_kept : (x : Record) (secret : ℕ) (coins buffer : List ℕ) → sound x ≡ true → Shaped x
@@ -59,7 +59,7 @@ deal_kept x secret coins buffer h shape =
 recover_good : (x : Record) (buffer : List ℕ) → Good x → first_of (recover_rows x (length buffer)) ≡ 0 → Good (recover_step x).after
 unfolding recover_step
 recover_good x buffer g e =
-    progress-good x _ g g.facts.progress.completion (λ q. (recover_passed x (length buffer) e).completed) (λ q. refl) g.facts.progress.dealt
+    progress_good x _ g g.facts.progress.completion (λ q. (recover_passed x (length buffer) e).completed) (λ q. refl) g.facts.progress.dealt
 
 -- The record after a recovery command is sound.
 pub recover_kept : (x : Record) (buffer : List ℕ) → sound x ≡ true → Shaped x
@@ -81,7 +81,7 @@ refusal_good : (m : Bool) (x : Record) (sender : ℕ) (bytes : List ℕ) → Goo
 unfolding refusal_heard
 refusal_good m x sender bytes g h =
     pick-either Good m (heard x (tag_in bytes) (sender - 1)) x
-    (λ e. let w = h e in let low = w.low in heard-good x (tag_in bytes) (sender - 1) g (omega arith) w.within)
+    (λ e. let w = h e in let low = w.low in heard_good x (tag_in bytes) (sender - 1) g (omega arith) w.within)
     (λ e. g)
 
 module _ (x : Record) (sender : ℕ) (bytes : List ℕ) (h : sound x ≡ true) (g : Good x) (c : Passed x sender bytes) where
@@ -97,13 +97,13 @@ module _ (x : Record) (sender : ℕ) (bytes : List ℕ) (h : sound x ≡ true) (
   message_good =
       let u = x.setup in
       by_tag u bytes c.hearing.form
-      (λ e. of _ (is_send_lem u bytes e) (λ below. heard-good x 1 (sender - 1) g (omega arith) c.hearing.within))
+      (λ e. of _ (is_send_lem u bytes e) (λ below. heard_good x 1 (sender - 1) g (omega arith) c.hearing.within))
       (λ e. of _ (is_echo_lem u bytes e) (λ below.
-      point-good x (sender - 1) h g c.hearing.within ByEcho _ _ (matrix-fits x.setup bytes (c.passes (omega arith))) below (rw e at c.hearing.unheard)))
+      point_good x (sender - 1) h g c.hearing.within ByEcho _ _ (matrix_fits x.setup bytes (c.passes (omega arith))) below (rw e at c.hearing.unheard)))
       (λ e. of _ (is_ready_lem u bytes e) (λ below.
-      point-good x (sender - 1) h g c.hearing.within ByReady _ _ (matrix-fits x.setup bytes (c.passes (omega arith))) below (rw e at c.hearing.unheard)))
+      point_good x (sender - 1) h g c.hearing.within ByReady _ _ (matrix_fits x.setup bytes (c.passes (omega arith))) below (rw e at c.hearing.unheard)))
       (λ e. of _ (is_recovery_lem u bytes e) (λ below.
-      recovery-good x (sender - 1) h g c.hearing.within (pair_in bytes) below (rw e at c.hearing.unheard)
+      recovery_good x (sender - 1) h g c.hearing.within (pair_in bytes) below (rw e at c.hearing.unheard)
       (and_right (is_done x.progress.completion) _ (c.hearing.commanded e))
       (c.hearing.unrecovered e)))
 

@@ -31,7 +31,7 @@ use Rattle.rules.proofs.Laws.Numbers.{group_rule, group_sizes}
 use Rattle.rules.proofs.Laws.Matrices.{row_at_lem, row-length, row_zero, matrix_height, matrix_filled, matrix_empty, entry_at}
 use Rattle.rules.proofs.Laws.Checks.{entry_below, four_lows, pair_lows}
 use Rattle.rules.specs.Laws.Shape.{ShapedSlot}
-use Rattle.rules.proofs.Laws.RoundTrip.{MatrixFits, PolynomialFits, PolynomialsFit, FourFits, PairFits, matrix-fits, polynomial_fits}
+use Rattle.rules.proofs.Laws.RoundTrip.{MatrixFits, PolynomialFits, PolynomialsFit, FourFits, PairFits, matrix_fits, polynomial_fits}
 
 -- for set-up numbers whose group keeps its rule, with k ≤ 8
 module _ (u : SetUp) (keeps : group_keeps u ≡ true) (high : u.k ≤ 8) where
@@ -67,7 +67,7 @@ module _ (u : SetUp) (keeps : group_keeps u ≡ true) (high : u.k ≤ 8) where
   pub read_room : (bytes : List ℕ) → matrix_passes group u.k (matrix_in u bytes) ≡ true → MatrixFits u.k (matrix_in u bytes)
   unfolding matrix_in
   read_room bytes passes =
-      matrix-fits u.k _ high (λ j l hj hl.
+      matrix_fits u.k _ high (λ j l hj hl.
       subst (λ (x : ℕ). x < 65536) (entry_at u.k _ high j l hj hl) (entry_small _ passes j l hj hl))
 
   module _ (slot : Slot) (shape : ShapedSlot slot) (zero : entries_zero u.k slot ≡ true) where
@@ -128,7 +128,7 @@ module _ (u : SetUp) (keeps : group_keeps u ≡ true) (high : u.k ≤ 8) where
     pub dealt_room : MatrixFits u.k (commitment group u.k f f')
     unfolding commitment committed
     dealt_room =
-        matrix-fits u.k _ high (λ j l hj hl.
+        matrix_fits u.k _ high (λ j l hj hl.
         let small = (group_sizes u keeps).modulus_small in
         let big = (group_rule u keeps).p_prime.big in
         let c = group.g.0 ^ coefficient₂ f j l * group.h.0 ^ coefficient₂ f' j l in

@@ -159,8 +159,8 @@ Fits u (ready C f) = MatrixFits u.k C × FourFits f
 Fits u (recovery s) = PairFits s
 
 -- A matrix made of two-byte numbers is in range.
-pub matrix-fits : (k : ℕ) (f : ℕ → ℕ → ℕ) → k ≤ 8 → ((j l : ℕ) → j < k → l < k → f j l < 65536) → MatrixFits k (matrix k (element 0) (λ j l. element (f j l)))
-matrix-fits k f h small =
+pub matrix_fits : (k : ℕ) (f : ℕ → ℕ → ℕ) → k ≤ 8 → ((j l : ℕ) → j < k → l < k → f j l < 65536) → MatrixFits k (matrix k (element 0) (λ j l. element (f j l)))
+matrix_fits k f h small =
     record {
       small = λ j l hj hl. rw (entry_at k f h j l hj hl) (small j l hj hl);
       form = matrix_same k (element 0) (λ j l. element (f j l)) _ (λ j l hj hl. ap element (sym (entry_at k f h j l hj hl)));
@@ -238,7 +238,7 @@ module _ (u : SetUp) (s : List ℕ) where
   module _ (b : Bytes s) (h : k ≤ 8) where
     matrix_in_fits : MatrixFits k (matrix_in u s)
     unfolding matrix_in
-    matrix_in_fits = matrix-fits k (λ j l. word s (7 + 2 * (j * k + l))) h (λ j l hj hl. word_small s b _)
+    matrix_in_fits = matrix_fits k (λ j l. word s (7 + 2 * (j * k + l))) h (λ j l hj hl. word_small s b _)
 
     matrix_in_stands : 7 + 2 * (k * k) ≤ length s → Stands s 7 (matrix_bytes k (matrix_in u s))
     unfolding matrix_in

@@ -39,10 +39,10 @@ pub record Good (x : Record) : Type 0 where
 -- ---- progress
 
 -- Progress may change to any that the record allows and that takes no command back.
-pub progress-good : (x : Record) (v : Progress) → Good x → ((s : ℕ) → v.completion ≡ With s → DoneWith x.setup s (slot_at x s))
+pub progress_good : (x : Record) (v : Progress) → Good x → ((s : ℕ) → v.completion ≡ With s → DoneWith x.setup s (slot_at x s))
     → (v.commanded ≡ true → is_done v.completion ≡ true) → (x.progress.commanded ≡ true → v.commanded ≡ true)
     → (v.dealt ≡ true → eqb x.setup.i x.setup.d ≡ true) → Good (with_progress x v)
-progress-good x v g done commanded stays dealt =
+progress_good x v g done commanded stays dealt =
     let c = g.facts in
     record {
       facts = record {
@@ -127,9 +127,9 @@ heard_none x g tag m lt lm i a l n h =
     hears_other x g.shape tag m lt (omega arith) a i (λ p q. let w : ⊥ = omega arith in w) ∙ g.facts.none i a l n h
 
 -- A box may be heard for a send, an echo or a ready.
-pub heard-good : (x : Record) (tag m : ℕ) → Good x → tag - 1 < 3 → m < x.setup.n → Good (heard x tag m)
+pub heard_good : (x : Record) (tag m : ℕ) → Good x → tag - 1 < 3 → m < x.setup.n → Good (heard x tag m)
 unfolding heard
-heard-good x tag m g lt lm =
+heard_good x tag m g lt lm =
     let c = g.facts in
     let lt4 : tag - 1 < 4 = omega arith in
     let boxes = (needed x c).boxes in
@@ -275,7 +275,7 @@ first_done (With a) s = refl
 pub completing_good : (x : Record) (s : ℕ) → Good x → DoneWith x.setup s (slot_at x s) → Good (completing x s)
 unfolding completing
 completing_good x s g c =
-    progress-good x _ g
+    progress_good x _ g
     (first_with x x.progress.completion s c g.facts.progress.completion)
     (λ e. first_done x.progress.completion s)
     (λ e. e)

@@ -23,7 +23,7 @@ use Rattle.rules.proofs.Laws.Facts.{marks_of, mark_at, ear, hears, Needed, DoneW
 use Rattle.rules.proofs.Laws.Sound.{agree_comm}
 use Rattle.rules.proofs.Laws.Kept.OpenSlot.{Fits, OpenFacts, open_facts, open_marks, open_same, open_new}
 use Rattle.rules.proofs.Laws.Kept.TakenSlot.{taken_cases, taken_use, taken_contents, taken_shape, count_grows, right_stays, right_kept}
-use Rattle.rules.proofs.Laws.Kept.Changes.{Good, heard-good, hears_own, Replaces, keeping_replaces, replaced_good, completing_good, share_good}
+use Rattle.rules.proofs.Laws.Kept.Changes.{Good, heard_good, hears_own, Replaces, keeping_replaces, replaced_good, completing_good, share_good}
 use Rattle.rules.proofs.Laws.Checks.{pair_from_below, recovered_below}
 
 -- ---- the slot of an echo or ready
@@ -148,7 +148,7 @@ heard_taking b x m C f g found fit l below unheard =
     let boxes = (needed x g.facts).boxes in
     let l10 : m < 10 = omega arith in
     record {
-      good = heard-good x (ear b + 1) m g (omega arith) l;
+      good = heard_good x (ear b + 1) m g (omega arith) l;
       found = record { within = found.within; own = found.own };
       fit = fit;
       sender = l;
@@ -159,16 +159,16 @@ heard_taking b x m C f g found fit l below unheard =
 
 module _ (x : Record) (m : ℕ) (h : sound x ≡ true) (g : Good x) (l : m < x.setup.n) where
   -- A checked echo or ready of a box not heard for it leaves a good record.
-  pub point-good : (b : Side) (C : List (List Element)) (f : Four) → Fits x.setup C → four_below (group_in x).q f ≡ true → hears x (ear b) m ≡ false
+  pub point_good : (b : Side) (C : List (List Element)) (f : Four) → Fits x.setup C → four_below (group_in x).q f ≡ true → hears x (ear b) m ≡ false
       → Good (point_step b (heard x (ear b + 1) m) m C f).after
   unfolding point_step
-  point-good b C f fit below e = point_at_lem b _ _ m C f (heard_taking b x m C f g (room x m C h l b e) fit l below e)
+  point_good b C f fit below e = point_at_lem b _ _ m C f (heard_taking b x m C f g (room x m C h l b e) fit l below e)
 
   -- A checked recovery share of a box not heard for one, after a command and before a pair is recovered, leaves a good record.
-  pub recovery-good : (s : Pair) → pair_below (group_in x).q s ≡ true → heard_for x 4 m ≡ false → x.progress.commanded ≡ true → is_there x.recovered.kept ≡ false
+  pub recovery_good : (s : Pair) → pair_below (group_in x).q s ≡ true → heard_for x 4 m ≡ false → x.progress.commanded ≡ true → is_there x.recovered.kept ≡ false
       → Good (share_step (heard x 4 m) m s).after
   unfolding share_step recovering heard
-  recovery-good s below e commanded none =
+  recovery_good s below e commanded none =
       let order = (needed x g.facts).order in
       pick-either AfterGood (eqb (shares_kept (sharing x m s)) x.setup.k) _ _
       (λ q. share_good x g m l s e none commanded below _ (recovered_below (group_in x).q order (share_points (sharing x m s))) (sym q))

@@ -59,9 +59,9 @@ module _ (k : ℕ) (f : ℕ → ℕ → Element) where
       go (no h) g = ap at (matrix_empty k (element 0) f j a (omega arith)) ∙ get_or-replicate 8 l (element 0) (element 0) b
 
 -- The matrix read out of a message fits if it would pass refusal 8.
-pub matrix-fits : (u : SetUp) (bytes : List ℕ) → matrix_passes (group_of u.group) u.k (matrix_in u bytes) ≡ true → Fits u (matrix_in u bytes)
+pub matrix_fits : (u : SetUp) (bytes : List ℕ) → matrix_passes (group_of u.group) u.k (matrix_in u bytes) ≡ true → Fits u (matrix_in u bytes)
 unfolding matrix_in
-matrix-fits u bytes h = record { passes = h; height = matrix_height u.k (element 0) _; width = matrix_width u.k _; zero = matrix-zero u.k _ }
+matrix_fits u bytes h = record { passes = h; height = matrix_height u.k (element 0) _; width = matrix_width u.k _; zero = matrix-zero u.k _ }
 
 -- ---- the new slot
 
