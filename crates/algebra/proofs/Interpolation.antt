@@ -1,6 +1,6 @@
 -- Lagrange's interpolation modulo a prime q, through k points at distinct places.
 --
--- In order: the definition; it is below q, depends only on the points and is linear in the values; it is a polynomial with
+-- In order: it is below q, depends only on the points and is linear in the values; it is a polynomial with
 -- k coefficients; it goes through its points, so it gives every polynomial with at most k coefficients back from its values,
 -- and moves as the values do that move by those of a polynomial; the polynomial through k points (`Through`).
 -- Not here: that a polynomial with too many roots is zero, and that two that agree at k places are one (`Polynomials`).

@@ -1,6 +1,6 @@
 -- Polynomials with plain numbers for coefficients, lowest first, and their values modulo a prime.
 --
--- In order: the value of a list of coefficients, and of c 0, .. c (k - 1), as a sum, at 0 the first; sums, multiples and products with x + b;
+-- In order: the value of c 0, .. c (k - 1) as a sum, at 0 the first; sums, multiples and products with x + b;
 -- division by x - a; remainders; a polynomial with as many roots modulo a prime as coefficients has only zeros for these;
 -- two polynomials that agree at as many places as they have coefficients agree everywhere, and are one.
 -- Assumes nothing.

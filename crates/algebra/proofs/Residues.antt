@@ -1,10 +1,8 @@
--- Numbers modulo m: the laws of `%`, primes by trial division, and the inverse modulo a prime.
+-- Numbers modulo m: the laws of `%`.
 --
 -- In order: two numbers with one remainder (`same-mod` the way in, `mod_same` the way out); inner remainders go (`mods`);
--- sums and products of numbers with one remainder, and with zero or one; differences; `Prime`, and that the test finds it;
--- the inverse, and that a product modulo a prime is zero only where a factor is; the field that the residues form; the
--- inverse's steps, as code takes them, and 1 - x / x; numbers k to a row.
--- Not here: `mod-add-mod`, `add-mod-mod`, `mod-mod`, `mod-lt`, `mod-eq_of_lt` (`native.Mathlib.Nat`).
+-- sums and products of numbers with one remainder, and with zero or one; differences.
+-- Not here: primes and inverses (`Fields`); `mod-add-mod`, `add-mod-mod`, `mod-mod`, `mod-lt`, `mod-eq_of_lt` (`native.Mathlib.Nat`).
 -- Assumes nothing.
 use Rattle.std.specs.Prelude.{◌≡◌, ◌≢◌}
 use Rattle.std.proofs.Math.Path.{refl, ap}

@@ -1,4 +1,4 @@
--- Tests: how they are joined (`_and_`, `_or_`, `same`, `implies`), how one picks (`pick`), and what follows from the result.
+-- Tests: how they are joined (`◌and◌`, `◌or◌`, `same`, `implies`), how one picks (`pick`), and what follows from the result.
 --
 -- A test is a `Bool` that code can compute. `T` of `lib.Dec` and the laws of `ltb`, `leb`, `eqb` in `borrow.Author.Tests`
 -- turn one into a fact about numbers.

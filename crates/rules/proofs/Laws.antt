@@ -1,5 +1,5 @@
 -- What follows from the definitions. In order: the numbers; rows and matrices; the generators of a group, dealing, and the
--- checks; the table of refusals; demand 1; the lengths of a record's arrays; a sound record clause by clause, and as facts at each index; matrices that
+-- checks; the table of refusals; demand 1; a sound record clause by clause, and as facts at each index; matrices that
 -- agree; how long messages are, that reading and writing undo one another, and that what a box sends has room there; what holds of a call past rows of the table, and who is heard after a delivery; a new
 -- record is sound; a sound record has room for all, and is kept sound by every call.
 pub mod Numbers

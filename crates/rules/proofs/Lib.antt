@@ -1,3 +1,3 @@
--- The laws that follow from the definitions, and the theorems on useless boxes.
+-- The laws that follow from the definitions, and that useless boxes are shut out.
 pub mod Laws
 pub mod UselessBoxes

@@ -1,4 +1,4 @@
--- `four_below_lem` is the test that refusal 9 holds of no number of a point. Assumes nothing.
+-- `four_below` is the test that refusal 9 holds of no number of a point. Assumes nothing.
 use borrow.Author.Tests.{lt-ltb, le-ltb}
 use Rattle.rules.specs.Dealing.{four_below}
 use Rattle.checking.proofs.four_below.Statement.{statement}

@@ -1,4 +1,4 @@
--- `numbers_keep_lem` is the test that refusal 12 does not hold of a set-up: each call gives one part of the test.
+-- `numbers_keep` is the test that refusal 12 does not hold of a set-up: each call gives one part of the test.
 -- Assumes nothing.
 use Rattle.std.proofs.Common.{sym, ◌∙◌}
 use mathlib.Core.Path.{◌≡◌}

@@ -1,4 +1,4 @@
--- `in_use_lem` is the lesser of the two. Assumes nothing.
+-- `in_use` is the lesser of the two. Assumes nothing.
 use native.Mathlib.Omega.{arith}
 use borrow.Author.Tests.{le-leb, lt-leb}
 use Rattle.console_shows.proofs.parts.in_use.Statement.{statement}
