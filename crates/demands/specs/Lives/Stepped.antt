@@ -66,7 +66,7 @@ pub record OwnMarks (v v' : Progress) (sent : Sent) : Type 0 where
 -- where neither is sent
 pub marks_stay : (v v' : Progress) (sent : Sent) → v'.dealt ≡ v.dealt → v'.commanded ≡ v.commanded → is_send sent ≡ false → is_recovery sent ≡ false
     → OwnMarks v v' sent
-marks_stay v v' sent d c a b =
+marks_stay v v' _ d c a b =
     record {
       dealt = record { now = rw a d; first = λ e. absurd (true≢false (sym e ∙ a)) };
       commanded = record { now = rw b c; first = λ e. absurd (true≢false (sym e ∙ b)) };
@@ -116,7 +116,7 @@ module _ (b : Side) (x : Record) (m s : ℕ) (v : Slot) where
         recovered = Absent;
       })
   unfolding heard
-  puts sends due c sent bytes now ready echo no-send no_recovery done still completes =
+  puts sends due c _ bytes now ready echo no-send no_recovery done still completes =
       record {
         slots = refl;
         ready = ready;
