@@ -42,6 +42,7 @@ pub fn deal(x: Record, secret: u32, coins: &[u16]) -> u8
 }
 
 // 13.
+#[tactic(auto, unfolding(rules::specs::Answers::first_row, rules::specs::Answers::own_recover_rows))]
 pub fn recover(x: Record) -> u8
     ensures { result ≡ first_of (own_recover_rows x) }
 {
