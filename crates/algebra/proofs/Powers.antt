@@ -2,7 +2,7 @@
 --
 -- In order: the laws of `^`; powers modulo p; the members, each e with e ^ q % p ≡ 1: their exponents count modulo q, and
 -- their products and powers are members; if q is prime, the order of each member but 1 is q.
--- Not here: `pow-zero`, `pow-suc` (`native.Mathlib.Nat`), `pow-add` (`lib.Pow`).
+-- Not here: `pow-zero`, `pow-suc`, `pow-add` (std's `Math.Nat` and `Common`).
 -- Assumes nothing.
 use Rattle.std.specs.Prelude.{◌≡◌, refl, ◌≢◌, ℕ, zero, suc, ◌+◌, ◌*◌, ◌-◌, ◌/◌, ◌%◌, ◌^◌}
 use Rattle.std.proofs.Common.{sym, ap, ◌∙◌, mod-eq_of_lt, one-mul, mul-one, mul_comm, mul-suc, mul-zero, pow-suc, arith, pow-add}

@@ -2,7 +2,7 @@
 --
 -- In order: two numbers with one remainder (`same-mod` the way in, `mod_same` the way out); inner remainders go (`mods`);
 -- sums and products of numbers with one remainder, and with zero or one; differences.
--- Not here: primes and inverses (`Fields`); `mod-add-mod`, `add-mod-mod`, `mod-mod`, `mod-lt`, `mod-eq_of_lt` (`native.Mathlib.Nat`).
+-- Not here: primes and inverses (`Fields`); `mod-add-mod`, `add-mod-mod`, `mod-mod`, `mod-lt`, `mod-eq_of_lt` (std's `Math.Nat` and `Common`).
 -- Assumes nothing.
 use Rattle.std.specs.Prelude.{◌≡◌, ◌≢◌}
 use Rattle.std.proofs.Math.Path.{refl, ap}

@@ -3,7 +3,7 @@
 -- In order: sums, and sums compared; products; powers of products and products of powers; remainders taken at each term or factor, or only
 -- once; a turn of a loop that takes the remainder each time; sums and products that are zero modulo m, and one that is not; sums whose
 -- terms move.
--- Not here: `-zero`, `-more`, `-same` (`folds`).
+-- Not here: `-zero`, `_more`, `_same` (`folds`).
 -- Assumes nothing.
 use Rattle.std.specs.Prelude.{◌≡◌, ◌≢◌, ◌⊎◌}
 use Rattle.std.proofs.Math.Path.{refl, ap}

@@ -1,7 +1,7 @@
 -- Folds over the indices below a bound, with the laws that a loop which counts up uses.
 --
 -- In order: `all_below`, `any_below`, `first_from`, `count_below`, `sum_below`, `prod_below`, `fold_below`. Each has `-zero` (the
--- loop starts), `-more` (one turn) and the laws of its ways out. The laws over a whole range stand behind them: what a fold
+-- loop starts), `_more` (one turn) and the laws of its ways out. The laws over a whole range stand behind them: what a fold
 -- says of each index, tests that agree at each, what a store in the list that it reads keeps, what one more index adds.
 -- Not here: how sums and products are joined, split and exchanged (`algebra`).
 -- Assumes nothing.

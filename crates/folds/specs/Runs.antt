@@ -1,4 +1,4 @@
--- Runs of bytes one behind the other (`gather`), and runs of stores (`sets` of `lib.Seq`: l with vs stored from index i).
+-- Runs of bytes one behind the other (`gather`), and runs of stores (`sets` of std's `List.Edits`: l with vs stored from index i).
 --
 -- In order: the definition; stores behind stores; stores in a lent tail, said of the whole; a loop that writes one run after the other;
 -- where a run stands in another (`Stands`); runs of one element each; what holds of every element (`Every`); the first k of one more

@@ -1,6 +1,6 @@
 -- Arrays filled from the front: `stores n f l` is l with f 0, f 1, .. f (n - 1) stored one after the other.
 --
--- In order: the definition; what a loop that fills an array uses (`-zero`, `-more`, `-turn`, `-left`); its length; what stands at
+-- In order: the definition; what a loop that fills an array uses (`-zero`, `_more`, `_turn`, `_left`); its length; what stands at
 -- each index; what one store leaves true of each index; an array filled from a list, and one more element of the list; arrays changed
 -- element by element (`map`, and `map_from` by the index), and a store in them.
 -- Assumes nothing.

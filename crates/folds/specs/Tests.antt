@@ -1,6 +1,6 @@
 -- Tests: how they are joined (`◌and◌`, `◌or◌`, `same`, `implies`), how one picks (`pick`), and what follows from the result.
 --
--- A test is a `Bool` that code can compute. `T` of `lib.Dec` and the laws of `ltb`, `leb`, `eqb` in `borrow.Author.Tests`
+-- A test is a `Bool` that code can compute. `T` of the prelude and the laws of `ltb`, `leb`, `eqb` in `borrow.Author.Tests`
 -- turn one into a fact about numbers.
 -- Assumes nothing.
 use Rattle.std.specs.Prelude.{◌≡◌, refl, Bool, true, false, not, ◌⊎◌, T}

@@ -35,15 +35,15 @@ pub record Welcome (x : Record) (sender : ℕ) (m : Message) : Type 0 where
 pub welcomed : (x : Record) (sender : ℕ) (m : Message) (lent : ℕ) → sound x ≡ true → is_box x.setup sender ≡ true → 2048 ≤ lent
     → Welcome x sender m → (doing x (gets sender (bytes_of x.setup m) lent)).outcome.answer.no ≡ 0
 unfolding doing deliver_rows early_rows call_rows form_rows turn_rows hearing_rows none bytes_of framed has_matrix
-welcomed x sender m lent All-sound sender-box long w =
+welcomed x sender m lent all_sound sender-box long w =
     let u = x.setup in
     let bytes = bytes_of u m in
-    let fit = setup_fits u (sound_facts x All-sound).numbers in
+    let fit = setup_fits u (sound_facts x all_sound).numbers in
     let read = message_there u m w.fits in
     let n = length-replicate {A = ℕ} lent 0 in
     (deliver_number x sender bytes (replicate lent 0)).zero.1
     (and_intro _ _ (ap not (le-ltb (length {A = ℕ} (replicate lent 0)) 2048 (omega arith)))
-    (and_intro _ _ (ap (λ b. not (not b)) All-sound)
+    (and_intro _ _ (ap (λ b. not (not b)) all_sound)
     (and_intro _ _ (ap (λ b. not (not b)) sender-box)
     (and_intro _ _ (ap not (message_formed u m fit))
     (and_intro _ _ (ap not (message_ours u m fit))
