@@ -76,6 +76,7 @@ fn bad_space(line: &[u8]) -> usize
 
 // ---- the word and its items
 
+#[tactic(auto, unfolding(crate::specs::Judging::judged_word))]
 fn judge_word(line: &[u8], word: Word) -> Judged
     requires { length line.now ≤ 8192 }
     ensures { result ≡ judged_word line.now word }

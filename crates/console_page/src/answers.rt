@@ -17,6 +17,7 @@ use rules::{Answer, Sent};
 
 // ---- the line of an answer
 
+#[tactic(auto, using(text::specs::Puts::puts_word_room), unfolding(crate::specs::Answers::sent_text, rules::specs::Text::text))]
 fn put_sent(page: &mut [u8], at: usize, sent: Sent) -> usize
     requires { at + 9 ≤ length page.old }
     ensures { Puts page.old at (sent_text sent) 9 result page.new }

@@ -29,6 +29,7 @@ pub enum Reason {
 }
 
 // Of any line; else its own.
+#[tactic(auto, unfolding(crate::specs::Reasons::line_reason, rules::specs::Text::text))]
 pub fn line_reason(b: &[u8], i: usize, own: Reason) -> Reason
     ensures { result ≡ line_reason b.now i own }
 {
@@ -68,6 +69,7 @@ pub fn count_reason(want: usize, have: usize) -> Reason
 }
 
 // Of the first line.
+#[tactic(auto, unfolding(crate::specs::Reasons::first_reason, rules::specs::Text::text))]
 pub fn first_reason(b: &[u8]) -> Reason
     ensures { result ≡ first_reason b.now }
 {
@@ -93,6 +95,7 @@ fn other_box(b: &[u8], i: usize, m: usize) -> bool
 }
 
 // Of the line of box m.
+#[tactic(auto, using(crate::specs::Lines::first_word_le), unfolding(crate::specs::Reasons::box_reason, rules::specs::Text::text))]
 pub fn box_reason(b: &[u8], i: usize, m: usize) -> Reason
     requires { Placed b.now i }
     ensures { result ≡ box_reason b.now i m }
