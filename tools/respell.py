@@ -3,8 +3,9 @@
 
 Words in snake case (`countBelow` is `count_below`); a dash stays where it joins two names (`length-written`) and is `_` before a plain word
 (`row-length` is `row_length`); a lemma that would have its definition's name gets `_lem`; facts are spelled as types. Names of src/, of the
-library and of what the prover makes stay, and so do strings. It turns the .antt and .rt files of crates/; with --map it prints each old and
-new name instead. It refuses two names that would fall together."""
+library and of what the prover makes stay, and so do strings. It turns the .antt and .rt files of crates/ and prints where a new name stood
+in a file before; with --clashes it does no more than that, with --map it prints each old and new name. It refuses two names that would fall
+together."""
 
 import re
 import sys
