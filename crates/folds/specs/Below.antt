@@ -134,6 +134,11 @@ module _ (p : ℕ → Bool) where
   any_below_none zero h = refl
   any_below_none (suc n) h = rw (h n (omega arith)) (any_below_none n (λ i l. h i (omega arith)))
 
+  pub any_below_same : (q : ℕ → Bool) (n : ℕ) → ((i : ℕ) → i < n → p i ≡ q i) → any_below n p ≡ any_below n q
+  unfolding any_below
+  any_below_same q zero h = refl
+  any_below_same q (suc n) h = ap₂ ◌or◌ (h n (omega arith)) (any_below_same q n (λ i l. h i (omega arith)))
+
   -- ---- firstFrom
 
   pub first_from_skip : (n i : ℕ) → i < n → p i ≡ false → first_from (n - i) i p ≡ first_from (n - (i + 1)) (i + 1) p

@@ -7,3 +7,4 @@ pub mod Stores
 pub mod Runs
 pub mod Loops
 pub mod Found
+pub mod Chains
