@@ -22,7 +22,7 @@ made st =
       sent = st.sent;
       bytes = length st.bytes;
       completed = st.completed;
-      recovered = record { kept = st.recovered };
+      recovered = st.recovered;
     }
 
 pub record Takes (st : Step) (buffer : List ℕ) (s : Made) (buffer' : List ℕ) : Type 0 where

@@ -10,8 +10,7 @@ use Rattle.std.proofs.Math.ListN.{length}
 use Rattle.std.proofs.lemmas.List.Edits.{sets}
 use Rattle.folds.specs.Tests.{pick}
 use Rattle.folds.specs.Runs.{gather}
-use Rattle.rules.specs.declared.Kept.{Kept}
-use Rattle.rules.specs.declared.Kept.TheVariants.{Absent, There}
+use Rattle.std.specs.Prelude.{Option, Some, None, is_some}
 use Rattle.rules.specs.declared.Marks.{Marks}
 use Rattle.rules.specs.Record.{marked}
 use Rattle.rules.specs.Text.{text, digit_of, decimal}
@@ -53,9 +52,9 @@ boxes_text marks = or_none (gather 10 (box_in marks))
 -- ---- a pair
 
 -- that of a word, and its newline; or the line that there is none
-abbrev pub kept_text : List ℕ → List ℕ → Kept → List ℕ
-kept_text word none Absent = none
-kept_text word none (There s) = numbered word s.first.0 ++ numbered (text " ") s.second.0 ++ text "\n"
+abbrev pub kept_text : List ℕ → List ℕ → Option Pair → List ℕ
+kept_text word none None = none
+kept_text word none (Some s) = numbered word s.first.0 ++ numbered (text " ") s.second.0 ++ text "\n"
 
 -- ---- laws of the writers
 

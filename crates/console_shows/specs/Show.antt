@@ -9,18 +9,15 @@ use Rattle.std.proofs.Common.{arith}
 use Rattle.folds.specs.Tests.{pick}
 use Rattle.folds.specs.Below.{count_below_le}
 use Rattle.folds.specs.Runs.{gather}
-use Rattle.rules.specs.declared.Completion.{Completion}
-use Rattle.rules.specs.declared.Completion.TheVariants.{NotYet, With}
+use Rattle.std.specs.Prelude.{Option, Some, None, is_some}
 use Rattle.rules.specs.declared.Element.{Element}
-use Rattle.rules.specs.declared.Keep.{Keep}
-use Rattle.rules.specs.declared.Kept.{Kept}
 use Rattle.rules.specs.declared.Marks.{Marks}
 use Rattle.rules.specs.declared.Progress.{Progress}
 use Rattle.rules.specs.declared.Record.{Record}
 use Rattle.rules.specs.declared.SetUp.{SetUp}
 use Rattle.rules.specs.declared.Slot.{Slot}
 use Rattle.rules.specs.Numbers.{element}
-use Rattle.rules.specs.Record.{no_marks, marked, is_there, matrix_of, count_e, count_r}
+use Rattle.rules.specs.Record.{no_marks, marked, matrix_of, count_e, count_r}
 use Rattle.rules.specs.Text.{text}
 use Rattle.record_reading.specs.Slots.{slot_in, count_marks}
 use Rattle.console_shows.specs.Parts.{least, numbered, widely, boxes_text, kept_text}
@@ -74,32 +71,32 @@ place_lines k slots = gather 20 (λ s. pick (slot_in slots s).used (place_line k
 -- ---- completion and recovery
 
 -- the place of the completed matrix, and the pair that is kept there
-unfoldable pub completed_line : ℕ → Kept → List ℕ
+unfoldable pub completed_line : ℕ → Option Pair → List ℕ
 completed_line s kept = numbered (text "completed place ") s ++ kept_text (text " share ") (text " share none\n") kept
 
-abbrev pub completion_line : List Slot → Completion → List ℕ
-completion_line slots NotYet = text "not completed\n"
-completion_line slots (With s) = pick (ltb s 20) (completed_line s (slot_in slots s).pair.kept) (text "completed no place\n")
+abbrev pub completion_line : List Slot → Option ℕ → List ℕ
+completion_line slots None = text "not completed\n"
+completion_line slots (Some s) = pick (ltb s 20) (completed_line s (slot_in slots s).pair) (text "completed no place\n")
 
 unfoldable pub commanded_line : Bool → List ℕ
 commanded_line commanded = pick commanded (text "commanded\n") (text "not commanded\n")
 
 -- a mark for each box whose recovery share is kept
-abbrev pub kept_marks : List Keep → Marks
-kept_marks shares = record { at = map (λ keep. is_there keep.kept) shares }
+abbrev pub kept_marks : List (Option Pair) → Marks
+kept_marks shares = record { at = map (λ keep. is_some keep) shares }
 
-unfoldable pub kept_line : List Keep → List ℕ
+unfoldable pub kept_line : List (Option Pair) → List ℕ
 kept_line shares = (text "kept" ++ boxes_text (kept_marks shares)) ++ text "\n"
 
-abbrev pub recovered_line : Keep → List ℕ
-recovered_line recovered = kept_text (text "recovered ") (text "not recovered\n") recovered.kept
+abbrev pub recovered_line : Option Pair → List ℕ
+recovered_line recovered = kept_text (text "recovered ") (text "not recovered\n") recovered
 
 -- ---- the whole
 
 unfoldable pub first_lines : SetUp → Bool → List Marks → List ℕ
 first_lines u dealt heard = set_up_line u ++ dealt_line u dealt ++ heard_line heard
 
-unfoldable pub last_lines : List Slot → Progress → List Keep → Keep → List ℕ
+unfoldable pub last_lines : List Slot → Progress → List (Option Pair) → Option Pair → List ℕ
 last_lines slots progress shares recovered =
     completion_line slots progress.completion ++ commanded_line progress.commanded ++ kept_line shares ++ recovered_line recovered
 

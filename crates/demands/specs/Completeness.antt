@@ -10,10 +10,8 @@ use Rattle.std.proofs.Math.Path.{sym, ap}
 use Rattle.std.proofs.Common.{◌∙◌, subst, arith}
 use Rattle.std.proofs.Math.Bool.{true}
 use Rattle.folds.specs.Tests.{and_intro}
-use Rattle.rules.specs.declared.Completion.{Completion}
-use Rattle.rules.specs.declared.Completion.TheVariants.{With}
+use Rattle.std.specs.Prelude.{Option, Some, None, is_some}
 use Rattle.rules.specs.declared.Element.{Element}
-use Rattle.rules.specs.declared.Kept.TheVariants.{Absent, There}
 use Rattle.rules.specs.declared.Record.{Record}
 use Rattle.rules.specs.declared.Sent.{Sent}
 use Rattle.rules.specs.declared.Sent.TheVariants.{Send, Echo, Ready, Recovery}
@@ -23,7 +21,7 @@ use Rattle.rules.specs.Numbers.{is_box}
 use Rattle.rules.specs.Matrices.{zero_four}
 use Rattle.rules.specs.Messages.{Message, recovery, matrix_in, polynomials_in, tag_of, bytes_of, to_each}
 use Rattle.rules.specs.Dealing.{coins_keep, matrix_passes, pair_below, point_check, share_check}
-use Rattle.rules.specs.Record.{slot_at, heard_for, matrix_of, is_there, is_done, kept_below, same_matrix}
+use Rattle.rules.specs.Record.{slot_at, heard_for, matrix_of, kept_below, same_matrix}
 use Rattle.rules.specs.Steps.{points, completed_share, share_bytes}
 use Rattle.rules.specs.Answers.{set_up, exponents_keep, checks}
 use Rattle.rules.proofs.Laws.Numbers.{bounds, box_is}
@@ -53,7 +51,7 @@ record Behind (u : SetUp) (slot : Slot) : Type 0 where
       (λ m f. point_check (group u) u.k (matrix_of slot) u.i m f ≡ true)
 
 module _ (u : SetUp) (taken : (set_up u).answer.no ≡ 0) (cs : List Call) (s : ℕ) (l : s < 20) where
-  behind : is_there (slot_at (after u cs) s).pair.kept ≡ true → Behind u (slot_at (after u cs) s)
+  behind : is_some (slot_at (after u cs) s).pair ≡ true → Behind u (slot_at (after u cs) s)
   behind there =
       let x = after u cs in
       let slot = slot_at x s in
@@ -70,7 +68,7 @@ module _ (u : SetUp) (taken : (set_up u).answer.no ≡ 0) (cs : List Call) (s : 
         differ =
             subst
             (λ (w : Slot). Different u zero_four (take u.k (points w.places)) (λ m f. point_check (group u) u.k C u.i m f ≡ true))
-            here (held_differ u taken C cs (ap (λ (w : Slot). is_there w.pair.kept) here ∙ there));
+            here (held_differ u taken C cs (ap (λ (w : Slot). is_some w.pair) here ∙ there));
       }
 
 -- ---- what a box sends is accepted
@@ -167,9 +165,9 @@ module _ (u : SetUp) (i j : ℕ) (taken : (set_up (own u i)).answer.no ≡ 0) (t
 
   -- a recovery share, at a box that completed with the same matrix and was commanded, and has not recovered
   pub share_accepted : (s s' : ℕ) → (doing (after (own u i) cs) c).outcome.answer.sent ≡ Recovery
-      → (after (own u i) cs).progress.completion ≡ With s → (after (own u j) cs').progress.completion ≡ With s'
+      → (after (own u i) cs).progress.completion ≡ Some s → (after (own u j) cs').progress.completion ≡ Some s'
       → same_matrix u.k (matrix_of (slot_at (after (own u i) cs) s)) (matrix_of (slot_at (after (own u j) cs') s')) ≡ true
-      → (after (own u j) cs').progress.commanded ≡ true → (after (own u j) cs').recovered.kept ≡ Absent
+      → (after (own u j) cs').progress.commanded ≡ true → (after (own u j) cs').recovered ≡ None
       → heard_for (after (own u j) cs') 4 (i - 1) ≡ false → answer_to u i j cs cs' c lent ≡ 0
   unfolding tag_of
   share_accepted s s' e done done' agree commanded unrecovered unheard =
@@ -184,13 +182,13 @@ module _ (u : SetUp) (i j : ℕ) (taken : (set_up (own u i)).answer.no ≡ 0) (t
       = sym (share_agree (group u) u.k _ _ agree (omega arith) i p) ∙ kept_passes (own u i) taken cs s p w.0 some.1 in
       arrives (λ m. recovery p) 4 (λ m. refl)
       ((said_by_lem Recovery e).0
-      ∙ ap (λ (v : Completion). share_bytes (own u i) (completed_share sender v)) done
+      ∙ ap (λ (v : Option ℕ). share_bytes (own u i) (completed_share sender v)) done
       ∙ ap (share_bytes (own u i)) some.1)
       (record {
         fits = pair_room (own u i) numbers.group_keeps_lem (size (own u i) numbers).high p below;
         dealer = λ q. absurd (omega arith);
-        commanded = λ q. and_intro _ _ (ap is_done done') commanded;
-        unrecovered = λ q. ap is_there unrecovered;
+        commanded = λ q. and_intro _ _ (ap is_some done') commanded;
+        unrecovered = λ q. ap is_some unrecovered;
         unheard = unheard;
         matrix = λ q. absurd (omega arith);
         exponents = rw at_j below;
@@ -205,6 +203,6 @@ pub dealt_share_kept : (u : SetUp) → (set_up u).answer.no ≡ 0 → (cs : List
     → readies_sent u (c ∷ cs) C ≡ readies_sent u cs C + 1
     → (secret : ℕ) (coins : List ℕ) → coins_keep u secret coins ≡ true
     → Different u zero_four (lowest_for u (after u (c ∷ cs)) C) (λ m f. f ≡ dealt_point u secret coins m u.i)
-    → kept_for (after u (c ∷ cs)) C ≡ There (dealt_share u secret coins u.i)
+    → kept_for (after u (c ∷ cs)) C ≡ Some (dealt_share u secret coins u.i)
 dealt_share_kept u taken cs c C now secret coins keeps dealt =
-    kept_then u taken cs c C now ∙ ap There (points_give u (numbers_keep_lem u taken) secret coins keeps u.i _ dealt).1
+    kept_then u taken cs c C now ∙ ap Some (points_give u (numbers_keep_lem u taken) secret coins keeps u.i _ dealt).1

@@ -8,10 +8,9 @@
 use Rattle.std.specs.Prelude.{◌≡◌, Bool, true, false, List, ◌∷◌, ◌++◌, ◌⊎◌, ◌≢◌, ℕ, ◌+◌, ◌*◌, ◌-◌, ◌<◌, ◌≤◌, eqb, get_or, take}
 use Rattle.folds.specs.Below.{count_below}
 use Rattle.rules.specs.declared.Answer.{Answer}
-use Rattle.rules.specs.declared.Completion.TheVariants.{With}
+use Rattle.std.specs.Prelude.{Option, Some, None, is_some}
 use Rattle.rules.specs.declared.Element.{Element}
 use Rattle.rules.specs.declared.Four.{Four}
-use Rattle.rules.specs.declared.Kept.TheVariants.{Absent, There}
 use Rattle.rules.specs.declared.Pair.{Pair}
 use Rattle.rules.specs.declared.Point.TheVariants.{Held}
 use Rattle.rules.specs.declared.Sent.TheVariants.{Send, Echo, Ready, Recovery}
@@ -20,7 +19,7 @@ use Rattle.rules.specs.Numbers.{group_of, group_keeps, is_box, numbers_keep}
 use Rattle.rules.specs.Matrices.{entry, zero_four}
 use Rattle.rules.specs.Messages.{echo, recovery, tag_in, matrix_in, polynomials_in, to_each}
 use Rattle.rules.specs.Dealing.{coins_keep, committed, matrix_passes, share_check}
-use Rattle.rules.specs.Record.{slot_at, place_at, share_at, is_there, is_done, matrix_of, sound, same_matrix, heard_for}
+use Rattle.rules.specs.Record.{slot_at, place_at, share_at, matrix_of, sound, same_matrix, heard_for}
 use Rattle.rules.specs.Steps.{Said, share_points, pair_from, echo_four, recovered_from}
 use Rattle.rules.specs.Answers.{no_pair, set_up}
 use Rattle.rules.specs.Sheet.{box_lines, secret_line, printed}
@@ -87,9 +86,9 @@ module _ (u : SetUp) (i j : ℕ) (taken : (set_up (own u i)).answer.no ≡ 0) (t
 
   -- their shares the share check": at a box that completed with the same matrix, was commanded and has not recovered
   pub shares_are_accepted : (s s' : ℕ) → (doing (after (own u i) cs) c).outcome.answer.sent ≡ Recovery
-      → (after (own u i) cs).progress.completion ≡ With s → (after (own u j) cs').progress.completion ≡ With s'
+      → (after (own u i) cs).progress.completion ≡ Some s → (after (own u j) cs').progress.completion ≡ Some s'
       → same_matrix u.k (matrix_of (slot_at (after (own u i) cs) s)) (matrix_of (slot_at (after (own u j) cs') s')) ≡ true
-      → (after (own u j) cs').progress.commanded ≡ true → (after (own u j) cs').recovered.kept ≡ Absent
+      → (after (own u j) cs').progress.commanded ≡ true → (after (own u j) cs').recovered ≡ None
       → heard_for (after (own u j) cs') 4 (i - 1) ≡ false
       → answer_to u i j cs cs' c lent ≡ 0
   shares_are_accepted = Completeness.share_accepted u i j taken taken' cs cs' c lent long
@@ -101,7 +100,7 @@ pub honest_points_give_the_dealt_share : (u : SetUp) → (set_up u).answer.no �
     → (secret : ℕ) (coins : List ℕ) → coins_keep u secret coins ≡ true
     → Different u zero_four (lowest_for u (after u (c ∷ cs)) C)
     (λ m f. f ≡ dealt_point u secret coins m u.i)
-    → kept_for (after u (c ∷ cs)) C ≡ There (dealt_share u secret coins u.i)
+    → kept_for (after u (c ∷ cs)) C ≡ Some (dealt_share u secret coins u.i)
 honest_points_give_the_dealt_share = Completeness.dealt_share_kept
 
 -- ---- the life of a box: set up once and accepted, then any calls, each on the record that the last one left
@@ -115,7 +114,7 @@ module _ (u : SetUp) (taken : (set_up u).answer.no ≡ 0) (cs : List Call) where
   deal_writes_the_sends = Lives.deal_writes u taken cs
 
   -- "Recovery command: send the share to each j.": a completed box's first, with buffer enough
-  pub command_writes_the_share : (s : ℕ) (p : Pair) → (after u cs).progress.completion ≡ With s → (slot_at (after u cs) s).pair.kept ≡ There p
+  pub command_writes_the_share : (s : ℕ) (p : Pair) → (after u cs).progress.completion ≡ Some s → (slot_at (after u cs) s).pair ≡ Some p
       → how_many (λ (a : Answer). is_recovery a.sent) (answers u cs) ≡ 0 → (lent : ℕ) → 2048 ≤ lent
       → Writes (doing (after u cs) (commanded lent)) Recovery (to_each u (λ j. recovery p))
   command_writes_the_share = Lives.command_writes u taken cs
@@ -174,54 +173,54 @@ module _ (u : SetUp) (taken : (set_up u).answer.no ≡ 0) (cs : List Call) where
   send_has_its_echo = Lives.exact_echo u taken cs
 
   -- "the kept pair is the interpolation at the moment ready was sent": there is one once ready was sent,
-  pub pair_kept_by_ready : (C : List (List Element)) → is_there (kept_for (after u cs) C) ≡ eqb (readies_sent u cs C) 1
+  pub pair_kept_by_ready : (C : List (List Element)) → is_some (kept_for (after u cs) C) ≡ eqb (readies_sent u cs C) 1
   pair_kept_by_ready = Lives.kept_when_ready u taken cs
 
   -- it is that of the k lowest points then held,
   pub pair_of_that_moment : (c : Call) (C : List (List Element)) → readies_sent u (c ∷ cs) C ≡ readies_sent u cs C + 1
       → kept_for (after u (c ∷ cs)) C
-      ≡ There (pair_from (order u) (lowest_for u (after u (c ∷ cs)) C))
+      ≡ Some (pair_from (order u) (lowest_for u (after u (c ∷ cs)) C))
   pair_of_that_moment = Lives.kept_then u taken cs
 
   -- "and never changes"
-  pub pair_never_changes : (C : List (List Element)) (p : Pair) (later : List Call) → kept_for (after u cs) C ≡ There p
-      → kept_for (after u (later ++ cs)) C ≡ There p
+  pub pair_never_changes : (C : List (List Element)) (p : Pair) (later : List Call) → kept_for (after u cs) C ≡ Some p
+      → kept_for (after u (later ++ cs)) C ≡ Some p
   pair_never_changes = Lives.kept_ever u taken cs
 
   -- "else if r = k + t, complete with this C": enough readies for one matrix mean completion
   pub enough_readies_complete : (C : List (List Element)) → u.k + u.t ≤ r_of (after u cs) C
-      → is_done (after u cs).progress.completion ≡ true
+      → is_some (after u cs).progress.completion ≡ true
   enough_readies_complete = Lives.completion_forced u taken cs
 
   -- "Only the first completion counts; later readies for another C are counted and change neither C nor share."
-  pub completion_never_changes : (s : ℕ) (later : List Call) → (after u cs).progress.completion ≡ With s
-      → ((after u (later ++ cs)).progress.completion ≡ With s)
+  pub completion_never_changes : (s : ℕ) (later : List Call) → (after u cs).progress.completion ≡ Some s
+      → ((after u (later ++ cs)).progress.completion ≡ Some s)
       × (matrix_of (slot_at (after u (later ++ cs)) s) ≡ matrix_of (slot_at (after u cs) s))
-      × ((slot_at (after u (later ++ cs)) s).pair.kept ≡ (slot_at (after u cs) s).pair.kept)
+      × ((slot_at (after u (later ++ cs)) s).pair ≡ (slot_at (after u cs) s).pair)
   completion_never_changes = Lives.completion_stays u taken cs
 
   -- "complete with this C and share (a(0), a'(0)), taken from the polynomials interpolated when this box sent ready for this C": the
   -- share is the pair kept for the completed matrix
-  pub completed_share_is_the_kept_pair : (s : ℕ) → (after u cs).progress.completion ≡ With s
-      → (slot_at (after u cs) s).pair.kept ≡ kept_for (after u cs) (matrix_of (slot_at (after u cs) s))
+  pub completed_share_is_the_kept_pair : (s : ℕ) → (after u cs).progress.completion ≡ Some s
+      → (slot_at (after u cs) s).pair ≡ kept_for (after u cs) (matrix_of (slot_at (after u cs) s))
   completed_share_is_the_kept_pair = Lives.share_kept_for u taken cs
 
   -- "the completed share passes the share check": a completed box has a kept pair in the place of its matrix, and it passes
-  pub completed_has_its_share : (s : ℕ) → (after u cs).progress.completion ≡ With s
-      → (s < 20) × (is_there (slot_at (after u cs) s).pair.kept ≡ true)
+  pub completed_has_its_share : (s : ℕ) → (after u cs).progress.completion ≡ Some s
+      → (s < 20) × (is_some (slot_at (after u cs) s).pair ≡ true)
   completed_has_its_share = Lives.completed_kept u taken cs
 
-  pub kept_share_passes : (s : ℕ) (p : Pair) → s < 20 → (slot_at (after u cs) s).pair.kept ≡ There p
+  pub kept_share_passes : (s : ℕ) (p : Pair) → s < 20 → (slot_at (after u cs) s).pair ≡ Some p
       → share_check (group u) u.k (matrix_of (slot_at (after u cs) s)) u.i p ≡ true
   kept_share_passes = Lives.kept_passes u taken cs
 
   -- "The pair that a box grown from set-up reports .. open[s] the first entry of the matrix completed with"
-  pub reported_pair_opens : (s : ℕ) (p : Pair) → (after u cs).progress.completion ≡ With s → (after u cs).recovered.kept ≡ There p
+  pub reported_pair_opens : (s : ℕ) (p : Pair) → (after u cs).progress.completion ≡ Some s → (after u cs).recovered ≡ Some p
       → committed (group u) p.first.0 p.second.0 ≡ entry (matrix_of (slot_at (after u cs) s)) 0 0
   reported_pair_opens = Lives.report_opens u taken cs
 
   -- "A silent box adds no point: the recovered pair is a function of the held places alone,
-  pub recovered_of_held_alone : (p : Pair) → (after u cs).recovered.kept ≡ There p → p ≡ recovered_from (order u) (share_points (after u cs).shares)
+  pub recovered_of_held_alone : (p : Pair) → (after u cs).recovered ≡ Some p → p ≡ recovered_from (order u) (share_points (after u cs).shares)
   recovered_of_held_alone = Lives.recovered_from_lem u taken cs
 
   -- and a place is held only by a checked message of its sender": it holds what the sender's first checked one said, and without
@@ -256,12 +255,12 @@ module _ (c : Class) (secret : ℕ) (coins : List ℕ) (h : AllKeep c secret coi
   held_points_are_dealt = Honest.point_is_dealt c secret coins h es only i box-i
 
   -- "the completed share is f(i, 0), f'(i, 0)",
-  pub completed_share_is_dealt : (s : ℕ) → (record_of c es i).progress.completion ≡ With s
-      → (slot_at (record_of c es i) s).pair.kept ≡ There (dealt_share c.numbers secret coins i)
+  pub completed_share_is_dealt : (s : ℕ) → (record_of c es i).progress.completion ≡ Some s
+      → (slot_at (record_of c es i) s).pair ≡ Some (dealt_share c.numbers secret coins i)
   completed_share_is_dealt = Honest.completed_share_is_dealt c secret coins h es only i box-i
 
   -- and what is recovered is the secret
-  pub recovered_is_the_secret : (p : Pair) → (record_of c es i).recovered.kept ≡ There p
+  pub recovered_is_the_secret : (p : Pair) → (record_of c es i).recovered ≡ Some p
       → (p.first.0 ≡ secret) × (p.second.0 ≡ get_or coins (c.numbers.k * c.numbers.k - 1) 0)
   recovered_is_the_secret = Honest.recovered_is_the_secret c secret coins h es only i box-i
 
@@ -280,12 +279,12 @@ module _ (b : List ℕ) where
   sheet_secret_opens = SheetOpens.sheet_opens b
 
   -- "the sheet's secret is that of the verified boxes alone": a box is verified by its own pair, which passes the share check,
-  pub sheet_verifies_what_is_said : (m : ℕ) (p : Pair) → m < 10 → share_at (verified b) m ≡ There p
-      → (share_at (says b) m ≡ There p) × (share_check (group_of (numbers b).group) (numbers b).k (matrix b) (m + 1) p ≡ true)
+  pub sheet_verifies_what_is_said : (m : ℕ) (p : Pair) → m < 10 → share_at (verified b) m ≡ Some p
+      → (share_at (says b) m ≡ Some p) × (share_check (group_of (numbers b).group) (numbers b).k (matrix b) (m + 1) p ≡ true)
   sheet_verifies_what_is_said = SheetOpens.sheet_verified b
 
   -- and a silent one never is
-  pub silent_box_is_not_verified : (m : ℕ) → m < 10 → share_at (says b) m ≡ Absent → share_at (verified b) m ≡ Absent
+  pub silent_box_is_not_verified : (m : ℕ) → m < 10 → share_at (says b) m ≡ None → share_at (verified b) m ≡ None
   silent_box_is_not_verified = SheetOpens.sheet_silent b
 
 -- ==== DEMAND 3

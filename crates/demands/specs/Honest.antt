@@ -17,9 +17,8 @@ use mathlib.Core.List.{List, [], ◌∷◌}
 use Rattle.std.proofs.Math.Decide.{ℕ_discrete}
 use Rattle.folds.specs.Tests.{and_intro, true≢false}
 use Rattle.folds.specs.Runs.{Every}
-use Rattle.rules.specs.declared.Completion.TheVariants.{With}
+use Rattle.std.specs.Prelude.{Option, Some, None, is_some}
 use Rattle.rules.specs.declared.Four.{Four}
-use Rattle.rules.specs.declared.Kept.TheVariants.{There}
 use Rattle.rules.specs.declared.Pair.{Pair}
 use Rattle.rules.specs.declared.Point.TheVariants.{Held}
 use Rattle.rules.specs.declared.Record.{Record}
@@ -27,7 +26,7 @@ use Rattle.rules.specs.declared.SetUp.{SetUp}
 use Rattle.rules.specs.Numbers.{group_keeps, is_box, numbers_keep}
 use Rattle.rules.specs.Messages.{message_in}
 use Rattle.rules.specs.Dealing.{coins_keep}
-use Rattle.rules.specs.Record.{slot_at, place_at, share_at, is_there, matrix_of, same_matrix}
+use Rattle.rules.specs.Record.{slot_at, place_at, share_at, matrix_of, same_matrix}
 use Rattle.rules.specs.Answers.{set_up, answered, deliver}
 use Rattle.rules.proofs.Laws.Agreement.{agree_self}
 use Rattle.rules.proofs.Laws.DemandOne.{outcome_number}
@@ -161,13 +160,13 @@ module _ (c : Class) (secret : ℕ) (coins : List ℕ) (h : AllKeep c secret coi
   point_is_dealt s m f l lm = point_dealt c.numbers secret coins h.deal i box-i (calls c es i) all_accepted_is_dealt s l m f lm
 
   -- the kept pair the dealt share,
-  pub pair_is_dealt : (s : ℕ) (p : Pair) → s < 20 → (slot_at (record_of c es i) s).pair.kept ≡ There p
+  pub pair_is_dealt : (s : ℕ) (p : Pair) → s < 20 → (slot_at (record_of c es i) s).pair ≡ Some p
       → p ≡ dealt_share c.numbers secret coins i
   pair_is_dealt s p l e =
-      pair_dealt c.numbers secret coins h.deal i box-i (calls c es i) all_accepted_is_dealt s l (ap is_there e) p e
+      pair_dealt c.numbers secret coins h.deal i box-i (calls c es i) all_accepted_is_dealt s l (ap is_some e) p e
 
   -- and a kept recovery share its sender's
-  pub share_is_dealt : (m : ℕ) (p : Pair) → m < 10 → share_at (record_of c es i).shares m ≡ There p
+  pub share_is_dealt : (m : ℕ) (p : Pair) → m < 10 → share_at (record_of c es i).shares m ≡ Some p
       → p ≡ dealt_share c.numbers secret coins (m + 1)
   share_is_dealt = share_dealt c.numbers secret coins h.deal i box-i (calls c es i) all_accepted_is_dealt
 
@@ -187,14 +186,14 @@ module _ (c : Class) (secret : ℕ) (coins : List ℕ) (h : AllKeep c secret coi
           x = record_of c es i
 
   -- a box that completed has the dealt share,
-  pub completed_share_is_dealt : (s : ℕ) → (record_of c es i).progress.completion ≡ With s
-      → (slot_at (record_of c es i) s).pair.kept ≡ There (dealt_share c.numbers secret coins i)
+  pub completed_share_is_dealt : (s : ℕ) → (record_of c es i).progress.completion ≡ Some s
+      → (slot_at (record_of c es i) s).pair ≡ Some (dealt_share c.numbers secret coins i)
   completed_share_is_dealt s e =
       let w = completed_kept (own c.numbers i) (is_taken c.numbers secret coins h.deal i box-i) (calls c es i) s e in
       let some = there_some _ w.1 in
-      some.1 ∙ ap There (pair_is_dealt s some.0 w.0 some.1)
+      some.1 ∙ ap Some (pair_is_dealt s some.0 w.0 some.1)
 
   -- and the pair that a box recovers is f(0, 0), f'(0, 0): the secret, and the coin that goes with it
-  pub recovered_is_the_secret : (p : Pair) → (record_of c es i).recovered.kept ≡ There p
+  pub recovered_is_the_secret : (p : Pair) → (record_of c es i).recovered ≡ Some p
       → (p.first.0 ≡ secret) × (p.second.0 ≡ get_or coins (c.numbers.k * c.numbers.k - 1) 0)
   recovered_is_the_secret = recovered_dealt c.numbers secret coins h.deal i box-i (calls c es i) all_accepted_is_dealt

@@ -28,10 +28,9 @@ use Rattle.std.proofs.Common.{sym, ap, ◌∙◌, subst, arith}
 use Rattle.folds.specs.Tests.{pick}
 use Rattle.folds.specs.Below.{count_below, any_below_here}
 use Rattle.rules.specs.declared.Answer.{Answer}
-use Rattle.rules.specs.declared.Completion.TheVariants.{With}
+use Rattle.std.specs.Prelude.{Option, Some, None, is_some}
 use Rattle.rules.specs.declared.Element.{Element}
 use Rattle.rules.specs.declared.Four.{Four}
-use Rattle.rules.specs.declared.Kept.TheVariants.{There}
 use Rattle.rules.specs.declared.Pair.{Pair}
 use Rattle.rules.specs.declared.Point.TheVariants.{Held}
 use Rattle.rules.specs.declared.Sent.{Sent}
@@ -41,7 +40,7 @@ use Rattle.rules.specs.declared.Slot.{Slot}
 use Rattle.rules.specs.Matrices.{entry}
 use Rattle.rules.specs.Messages.{echo, recovery, tag_in, matrix_in, polynomials_in, to_each}
 use Rattle.rules.specs.Dealing.{coins_keep, committed, point_check, share_check}
-use Rattle.rules.specs.Record.{slot_at, place_at, share_at, is_held, is_there, is_done, held, matrix_of, sound}
+use Rattle.rules.specs.Record.{slot_at, place_at, share_at, is_held, held, matrix_of, sound}
 use Rattle.rules.specs.Steps.{points, share_points, pair_from, echo_four, recovered_from}
 use Rattle.rules.specs.Answers.{set_up}
 use Rattle.rules.specs.Laws.Shape.{Shaped}
@@ -89,7 +88,7 @@ module _ (u : SetUp) (taken : (set_up u).answer.no ≡ 0) (cs : List Call) where
   shares_say m l = shares_are u taken m l cs
 
   -- the recovered pair is that of the kept shares alone
-  pub recovered_from_lem : (p : Pair) → (after u cs).recovered.kept ≡ There p → p ≡ recovered_from (order u) (share_points (after u cs).shares)
+  pub recovered_from_lem : (p : Pair) → (after u cs).recovered ≡ Some p → p ≡ recovered_from (order u) (share_points (after u cs).shares)
   recovered_from_lem p e = recovered_is u taken p cs e
 
   -- a box sends echo at most once, ready at most once for each matrix, and completes at most once
@@ -99,29 +98,29 @@ module _ (u : SetUp) (taken : (set_up u).answer.no ≡ 0) (cs : List Call) where
   pub one_ready : (C : List (List Element)) → readies_sent u cs C ≤ 1
   one_ready C =
       rw (readies_are u taken C cs)
-      (elim (is_there (slot_of (after u cs) C).pair.kept) as (λ b. pick {A = ℕ} b 1 0 ≤ 1) [ true ↦ omega arith | false ↦ omega arith ])
+      (elim (is_some (slot_of (after u cs) C).pair) as (λ b. pick {A = ℕ} b 1 0 ≤ 1) [ true ↦ omega arith | false ↦ omega arith ])
 
   pub one_completion : how_many (λ (a : Answer). a.completed) (answers u cs) ≤ 1
   one_completion = complete_once u taken cs
 
   -- a pair is kept for a matrix once ready was sent for it
-  pub kept_when_ready : (C : List (List Element)) → is_there (kept_for (after u cs) C) ≡ eqb (readies_sent u cs C) 1
+  pub kept_when_ready : (C : List (List Element)) → is_some (kept_for (after u cs) C) ≡ eqb (readies_sent u cs C) 1
   kept_when_ready C =
       rw (kept_of (after u cs) C, readies_are u taken C cs)
-      (elim (is_there (slot_of (after u cs) C).pair.kept) as (λ b. b ≡ eqb (pick {A = ℕ} b 1 0) 1) [ true ↦ refl | false ↦ refl ])
+      (elim (is_some (slot_of (after u cs) C).pair) as (λ b. b ≡ eqb (pick {A = ℕ} b 1 0) 1) [ true ↦ refl | false ↦ refl ])
 
   -- it is the interpolation, at that moment, of the k lowest points held
   pub kept_then : (c : Call) (C : List (List Element)) → readies_sent u (c ∷ cs) C ≡ readies_sent u cs C + 1
       → kept_for (after u (c ∷ cs)) C
-      ≡ There (pair_from (order u) (lowest_for u (after u (c ∷ cs)) C))
+      ≡ Some (pair_from (order u) (lowest_for u (after u (c ∷ cs)) C))
   kept_then c C e =
       let now = kept_now u taken C c cs e in
-      let here = slot_there (after u (c ∷ cs)) C (ap is_there now) in
-      kept_of (after u (c ∷ cs)) C ∙ now ∙ ap (λ (w : Slot). There (pair_from (order u) (take u.k (points w.places)))) here
+      let here = slot_there (after u (c ∷ cs)) C (ap is_some now) in
+      kept_of (after u (c ∷ cs)) C ∙ now ∙ ap (λ (w : Slot). Some (pair_from (order u) (take u.k (points w.places)))) here
 
   -- and never changes
-  pub kept_ever : (C : List (List Element)) (p : Pair) (later : List Call) → kept_for (after u cs) C ≡ There p
-      → kept_for (after u (later ++ cs)) C ≡ There p
+  pub kept_ever : (C : List (List Element)) (p : Pair) (later : List Call) → kept_for (after u cs) C ≡ Some p
+      → kept_for (after u (later ++ cs)) C ≡ Some p
   kept_ever C p later e = kept_of (after u (later ++ cs)) C ∙ kept_on u taken C cs p later (sym (kept_of (after u cs) C) ∙ e)
 
   -- a held point passed the point check, and a kept pair passes the share check
@@ -133,45 +132,45 @@ module _ (u : SetUp) (taken : (set_up u).answer.no ≡ 0) (cs : List Call) where
       used : (slot_at (after u cs) s).used ≡ true
       used = ((good u taken cs).facts.slots.each s a).in_use ∙ any_below_here (held (slot_at (after u cs) s)) 10 m l (ap is_held e)
 
-  pub kept_passes : (s : ℕ) (p : Pair) → s < 20 → (slot_at (after u cs) s).pair.kept ≡ There p
+  pub kept_passes : (s : ℕ) (p : Pair) → s < 20 → (slot_at (after u cs) s).pair ≡ Some p
       → share_check (group u) u.k (matrix_of (slot_at (after u cs) s)) u.i p ≡ true
   kept_passes s p a e =
       pair_passes u taken (matrix_of (slot_at (after u cs) s)) cs p
-      (ap (λ (w : Slot). w.pair.kept) (slot_used (after u cs) (good u taken cs) s a used) ∙ e)
+      (ap (λ (w : Slot). w.pair) (slot_used (after u cs) (good u taken cs) s a used) ∙ e)
     where
       used : (slot_at (after u cs) s).used ≡ true
       used =
           used_there u (slot_at (after u cs) s) (facts_at u taken cs s a)
-          (let low = (size u (numbers_keep_lem u taken)).low in omega arith) (ap is_there e)
+          (let low = (size u (numbers_keep_lem u taken)).low in omega arith) (ap is_some e)
 
   -- a completed box has a kept pair in its completed place
-  pub completed_kept : (s : ℕ) → (after u cs).progress.completion ≡ With s
-      → (s < 20) × (is_there (slot_at (after u cs) s).pair.kept ≡ true)
+  pub completed_kept : (s : ℕ) → (after u cs).progress.completion ≡ Some s
+      → (s < 20) × (is_some (slot_at (after u cs) s).pair ≡ true)
   completed_kept s e = done_kept u taken s cs e
 
   -- k + t readies for a matrix mean completion
-  pub completion_forced : (C : List (List Element)) → u.k + u.t ≤ r_of (after u cs) C → is_done (after u cs).progress.completion ≡ true
+  pub completion_forced : (C : List (List Element)) → u.k + u.t ≤ r_of (after u cs) C → is_some (after u cs).progress.completion ≡ true
   completion_forced C many = forced u taken C cs (rw (← r_of_lem (after u cs) C) many)
 
   -- which stays, with its matrix and its share
-  pub completion_stays : (s : ℕ) (later : List Call) → (after u cs).progress.completion ≡ With s
-      → ((after u (later ++ cs)).progress.completion ≡ With s)
+  pub completion_stays : (s : ℕ) (later : List Call) → (after u cs).progress.completion ≡ Some s
+      → ((after u (later ++ cs)).progress.completion ≡ Some s)
       × (matrix_of (slot_at (after u (later ++ cs)) s) ≡ matrix_of (slot_at (after u cs) s))
-      × ((slot_at (after u (later ++ cs)) s).pair.kept ≡ (slot_at (after u cs) s).pair.kept)
+      × ((slot_at (after u (later ++ cs)) s).pair ≡ (slot_at (after u cs) s).pair)
   completion_stays s later e = (completion_on u taken s cs e later, matrix_on u taken s cs e later, share_on u taken s cs e later)
 
   -- and its share is the pair kept for its matrix
-  pub share_kept_for : (s : ℕ) → (after u cs).progress.completion ≡ With s
-      → (slot_at (after u cs) s).pair.kept ≡ kept_for (after u cs) (matrix_of (slot_at (after u cs) s))
+  pub share_kept_for : (s : ℕ) → (after u cs).progress.completion ≡ Some s
+      → (slot_at (after u cs) s).pair ≡ kept_for (after u cs) (matrix_of (slot_at (after u cs) s))
   share_kept_for s e = sym (share_kept u taken s cs e)
 
   -- a kept recovery share passes the share check against the completed matrix
-  pub shares_pass : (s m : ℕ) (p : Pair) → (after u cs).progress.completion ≡ With s → m < 10 → share_at (after u cs).shares m ≡ There p
+  pub shares_pass : (s m : ℕ) (p : Pair) → (after u cs).progress.completion ≡ Some s → m < 10 → share_at (after u cs).shares m ≡ Some p
       → share_check (group u) u.k (matrix_of (slot_at (after u cs) s)) (m + 1) p ≡ true
   shares_pass s m p d l e = share_pass u taken s m p l cs d e
 
   -- the pair that a box reports opens the first entry of the matrix that it completed with
-  pub report_opens : (s : ℕ) (p : Pair) → (after u cs).progress.completion ≡ With s → (after u cs).recovered.kept ≡ There p
+  pub report_opens : (s : ℕ) (p : Pair) → (after u cs).progress.completion ≡ Some s → (after u cs).recovered ≡ Some p
       → committed (group u) p.first.0 p.second.0 ≡ entry (matrix_of (slot_at (after u cs) s)) 0 0
   report_opens s p d e = report_open u taken s p cs d e
 
@@ -197,7 +196,7 @@ module _ (u : SetUp) (taken : (set_up u).answer.no ≡ 0) (cs : List Call) where
   one_deal = deal_once u taken cs
 
   -- a completed box's first command is taken, and writes its share; it takes one
-  pub command_writes : (s : ℕ) (p : Pair) → (after u cs).progress.completion ≡ With s → (slot_at (after u cs) s).pair.kept ≡ There p
+  pub command_writes : (s : ℕ) (p : Pair) → (after u cs).progress.completion ≡ Some s → (slot_at (after u cs) s).pair ≡ Some p
       → how_many (λ (a : Answer). is_recovery a.sent) (answers u cs) ≡ 0 → (lent : ℕ) → 2048 ≤ lent
       → Writes (doing (after u cs) (commanded lent)) Recovery (to_each u (λ j. recovery p))
   command_writes s p done kept first lent long = first_command u taken cs lent long s p done kept first

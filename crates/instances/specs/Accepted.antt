@@ -6,10 +6,7 @@
 -- Assumes nothing.
 use Rattle.std.specs.Prelude.{◌≡◌, refl, Bool, true, false, List, [], ◌∷◌, ℕ, length, get_or}
 use Rattle.std.proofs.Common.{sym, ap, ap₂, ◌∙◌, arith}
-use Rattle.rules.specs.declared.Completion.{Completion}
-use Rattle.rules.specs.declared.Completion.TheVariants.{With}
-use Rattle.rules.specs.declared.Kept.{Kept}
-use Rattle.rules.specs.declared.Kept.TheVariants.{Absent}
+use Rattle.std.specs.Prelude.{Option, Some, None, is_some}
 use Rattle.rules.specs.declared.Record.{Record}
 use Rattle.rules.specs.declared.Sent.{Sent}
 use Rattle.rules.specs.declared.Sent.TheVariants.{Send, Echo, Ready, Recovery}
@@ -81,11 +78,11 @@ record Looks : Type 0 where
   ready_heard : Bool
   shares : Sending
   share_heard : Bool
-  completion_2 : Completion
-  completion_3 : Completion
+  completion_2 : Option ℕ
+  completion_3 : Option ℕ
   same : Bool
   told : Bool
-  recovered : Kept
+  recovered : Option Pair
 
 abbrev at : ℕ → List Call → Record
 at i cs = after (own class i) cs
@@ -109,7 +106,7 @@ look b c =
       completion_3 = c.left.progress.completion;
       same = same_matrix 2 (matrix_of (slot_at b.left 0)) (matrix_of (slot_at c.left 0));
       told = c.left.progress.commanded;
-      recovered = c.left.recovered.kept;
+      recovered = c.left.recovered;
     }
 
 looks : look (life (own class 2) completed) (life (own class 3) recovering)
@@ -122,11 +119,11 @@ looks : look (life (own class 2) completed) (life (own class 3) recovering)
       ready_heard = false;
       shares = record { what = Recovery; bytes = 10 };
       share_heard = false;
-      completion_2 = With 0;
-      completion_3 = With 0;
+      completion_2 = Some 0;
+      completion_3 = Some 0;
       same = true;
       told = true;
-      recovered = Absent;
+      recovered = None;
     }
 unfolding computed doing after message_to life takes
 looks = refl
@@ -160,11 +157,11 @@ pub record Sends : Type 0 where
   pub share_bytes_lem : bytes 2 completed (commanded 2048) 3 ≡ 10
   pub share_new : heard_for (at 3 recovering) 4 1 ≡ false
   -- both have completed with the same matrix, and box 3 was told to recover and has not yet
-  pub completion_2 : (at 2 completed).progress.completion ≡ With 0
-  pub completion_3 : (at 3 recovering).progress.completion ≡ With 0
+  pub completion_2 : (at 2 completed).progress.completion ≡ Some 0
+  pub completion_3 : (at 3 recovering).progress.completion ≡ Some 0
   pub same : same_matrix 2 (matrix_of (slot_at (at 2 completed) 0)) (matrix_of (slot_at (at 3 recovering) 0)) ≡ true
   pub told : (at 3 recovering).progress.commanded ≡ true
-  pub recovered : (at 3 recovering).recovered.kept ≡ Absent
+  pub recovered : (at 3 recovering).recovered ≡ None
 
 pub sends : Sends
 unfolding came_to

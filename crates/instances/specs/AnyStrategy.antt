@@ -8,9 +8,8 @@ use Rattle.std.specs.Prelude.{◌≡◌, Bool, true, false, List, [], ◌∷◌,
 use Rattle.std.proofs.Math.Path.{refl, ap}
 use Rattle.std.proofs.Common.{sym, subst, ◌∙◌}
 use Prim.Native.Nat.{ℕ, zero, suc}
-use Rattle.rules.specs.declared.Completion.TheVariants.{NotYet}
+use Rattle.std.specs.Prelude.{Option, Some, None, is_some}
 use Rattle.rules.specs.declared.Four.{Four}
-use Rattle.rules.specs.declared.Kept.TheVariants.{There}
 use Rattle.rules.specs.declared.Pair.{Pair}
 use Rattle.rules.specs.Numbers.{is_box}
 use Rattle.rules.specs.Matrices.{α, α', β, β'}
@@ -149,7 +148,7 @@ look_at p = look p.script p.run.saw (box_in p.run 1) (box_in p.run 3) (box_in p.
 
 abbrev sight_3 : Pair → Sight
 sight_3 p =
-    record { told = 0 ∷ 0 ∷ 0 ∷ 0 ∷ 0 ∷ []; completed = NotYet; matrix = D; e = 4; r = 0; kept = There p; commanded = false }
+    record { told = 0 ∷ 0 ∷ 0 ∷ 0 ∷ 0 ∷ []; completed = None; matrix = D; e = 4; r = 0; kept = Some p; commanded = false }
 
 abbrev looks_so : Pair → Looks
 looks_so p = record { script = made; saw = true; box_3 = sight_3 p; commanded_1 = false; commanded_5 = false }

@@ -6,7 +6,7 @@
 use Rattle.std.specs.Prelude.{◌≡◌, refl, true, List, [], ◌∷◌, ◌≢◌, ℕ, zero, suc, ◌≤◌, ◌<◌, get_or}
 use Rattle.std.proofs.Common.{sym, ap, subst, ◌∙◌, not-suc-le-zero, le_of_suc-le-suc, arith}
 use Rattle.rules.specs.declared.Four.{Four}
-use Rattle.rules.specs.declared.Kept.TheVariants.{There}
+use Rattle.std.specs.Prelude.{Option, Some, None, is_some}
 use Rattle.rules.specs.declared.Pair.{Pair}
 use Rattle.rules.specs.Numbers.{groups, group_of}
 use Rattle.rules.specs.Matrices.{entry, zero_four}
@@ -129,7 +129,7 @@ dealt_to_1 : dealt_share class 5 coins 1 ≡ pair 7 8
 unfolding computed
 dealt_to_1 = refl
 
-pub kept_dealt : kept_for then D ≡ There (pair 7 8)
+pub kept_dealt : kept_for then D ≡ Some (pair 7 8)
 kept_dealt =
     honest_points_give_the_dealt_share class one_life.taken before moment D one_life.sends_ready 5 coins coins_keep_lem held_dealt
-    ∙ ap There dealt_to_1
+    ∙ ap Some dealt_to_1

@@ -8,12 +8,9 @@ use Rattle.std.specs.Prelude.{◌≡◌, refl, Bool, true, false, List, [], ◌�
 use Rattle.folds.specs.Tests.{◌and◌, pick}
 use Rattle.folds.specs.Runs.{gather}
 use Rattle.rules.specs.declared.Answer.{Answer}
-use Rattle.rules.specs.declared.Completion.{Completion}
-use Rattle.rules.specs.declared.Completion.TheVariants.{NotYet, With}
+use Rattle.std.specs.Prelude.{Option, Some, None, is_some}
 use Rattle.rules.specs.declared.Element.{Element}
 use Rattle.rules.specs.declared.Four.{Four}
-use Rattle.rules.specs.declared.Kept.{Kept}
-use Rattle.rules.specs.declared.Kept.TheVariants.{There}
 use Rattle.rules.specs.declared.Marks.{Marks}
 use Rattle.rules.specs.declared.Record.{Record}
 use Rattle.rules.specs.declared.SetUp.{SetUp}
@@ -88,7 +85,7 @@ last_boxes =
 -- what is looked at: each answer, completion, e and r at places 0 and 1, and how what was sent last begins
 record Shows : Type 0 where
   told : List Answer
-  completion : Completion
+  completion : Option ℕ
   counts : List ℕ
   last : List ℕ
 
@@ -105,10 +102,10 @@ show p =
 record Keeps : Type 0 where
   told : List Answer
   ends : List ℕ
-  pair : Kept
+  pair : Option Pair
 
 abbrev kept : Played → Keeps
-kept p = record { told = p.told; ends = take 8 (drop 25 (get_or p.sent 0 [])); pair = (slot_at p.left 0).pair.kept }
+kept p = record { told = p.told; ends = take 8 (drop 25 (get_or p.sent 0 [])); pair = (slot_at p.left 0).pair }
 
 -- ---- places
 
@@ -195,7 +192,7 @@ pub record Counts : Type 0 where
             ∷ quiet ∷ quiet ∷ sends Ready 330 ∷ quiet ∷ quiet
             ∷ sends Recovery 100
             ∷ quiet ∷ quiet ∷ recovers 1 0 ∷ [];
-        completion = With 1;
+        completion = Some 1;
         counts = 1 ∷ 5 ∷ 7 ∷ 5 ∷ [];
         last = 4 ∷ 0 ∷ 7 ∷ 3 ∷ 255 ∷ 255 ∷ 0 ∷ 1 ∷ 0 ∷ 0 ∷ [];
       }
@@ -203,14 +200,14 @@ pub record Counts : Type 0 where
       ≡ record {
         told = quiet ∷ quiet ∷ quiet ∷ quiet ∷ quiet ∷ quiet ∷ sends Ready 470 ∷ quiet
             ∷ quiet ∷ quiet ∷ quiet ∷ quiet ∷ quiet ∷ completes ∷ quiet ∷ [];
-        completion = With 0;
+        completion = Some 0;
         counts = 8 ∷ 7 ∷ 0 ∷ 0 ∷ [];
         last = 3 ∷ 0 ∷ 44 ∷ 3 ∷ 255 ∷ 255 ∷ 4 ∷ 0 ∷ 2 ∷ 0 ∷ [];
       }
-  pub passed_by : show (plays passed_by fourth) ≡ record { told = quiet ∷ []; completion = NotYet; counts = 0 ∷ 4 ∷ 0 ∷ 0 ∷ []; last = [] }
+  pub passed_by : show (plays passed_by fourth) ≡ record { told = quiet ∷ []; completion = None; counts = 0 ∷ 4 ∷ 0 ∷ 0 ∷ []; last = [] }
   -- the ready to box 1, which ends with 6, 0, 4, 5, and the pair kept
   pub last_boxes : kept (plays (new_record last_class) last_boxes)
-      ≡ record { told = quiet ∷ quiet ∷ sends Ready 330 ∷ []; ends = 0 ∷ 6 ∷ 0 ∷ 0 ∷ 0 ∷ 4 ∷ 0 ∷ 5 ∷ []; pair = There (pair 0 2) }
+      ≡ record { told = quiet ∷ quiet ∷ sends Ready 330 ∷ []; ends = 0 ∷ 6 ∷ 0 ∷ 0 ∷ 0 ∷ 4 ∷ 0 ∷ 5 ∷ []; pair = Some (pair 0 2) }
   pub in_the_gap : stand 5 (plays gap in_the_gap)
       ≡ record {
         numbers = 0 ∷ 0 ∷ 0 ∷ [];

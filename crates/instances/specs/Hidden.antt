@@ -7,11 +7,8 @@ use Rattle.std.specs.Prelude.{◌≡◌, refl, Bool, true, false, List, [], ◌�
 use Rattle.std.proofs.Common.{sym, ap, subst, ◌∙◌, arith}
 use Rattle.folds.specs.Tests.{and_left, true≢false}
 use Rattle.rules.specs.declared.Answer.{Answer}
-use Rattle.rules.specs.declared.Completion.{Completion}
-use Rattle.rules.specs.declared.Completion.TheVariants.{With}
+use Rattle.std.specs.Prelude.{Option, Some, None, is_some}
 use Rattle.rules.specs.declared.Element.{Element}
-use Rattle.rules.specs.declared.Kept.{Kept}
-use Rattle.rules.specs.declared.Kept.TheVariants.{There}
 use Rattle.rules.specs.declared.Pair.{Pair}
 use Rattle.rules.specs.declared.Point.{Point}
 use Rattle.rules.specs.declared.Point.TheVariants.{Held}
@@ -49,11 +46,11 @@ use Rattle.instances.specs.Script.{numbers, set, room, few, coins, coins_keep_le
 -- whether it was told to recover
 pub record Sight : Type 0 where
   pub told : List ℕ
-  pub completed : Completion
+  pub completed : Option ℕ
   pub matrix : List (List Element)
   pub e : ℕ
   pub r : ℕ
-  pub kept : Kept
+  pub kept : Option Pair
   pub commanded : Bool
 
 -- what is looked at of a run, computed at once
@@ -75,7 +72,7 @@ sight_of b s =
       matrix = matrix_of (slot_at b.left s);
       e = count_e (slot_at b.left s);
       r = count_r (slot_at b.left s);
-      kept = (slot_at b.left s).pair.kept;
+      kept = (slot_at b.left s).pair;
       commanded = b.left.progress.commanded;
     }
 
@@ -96,7 +93,7 @@ look_at run = look run.saw (box_in run 1) (box_in run 3) (box_in run 5)
 
 -- completed with the dealt matrix in this place
 abbrev sight : List ℕ → ℕ → ℕ → ℕ → Pair → Sight
-sight told place e r p = record { told = told; completed = With place; matrix = D; e = e; r = r; kept = There p; commanded = false }
+sight told place e r p = record { told = told; completed = Some place; matrix = D; e = e; r = r; kept = Some p; commanded = false }
 
 -- too few coins, the short buffer and the second deal are refused
 abbrev sight_1 : Pair → Sight

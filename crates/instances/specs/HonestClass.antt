@@ -6,11 +6,8 @@
 use Rattle.std.specs.Prelude.{◌≡◌, refl, true, false, List, [], ◌∷◌, ◌++◌, map, ℕ}
 use Rattle.std.proofs.Common.{ap, ◌∙◌, arith}
 use Rattle.rules.specs.declared.Answer.{Answer}
-use Rattle.rules.specs.declared.Completion.{Completion}
-use Rattle.rules.specs.declared.Completion.TheVariants.{NotYet, With}
+use Rattle.std.specs.Prelude.{Option, Some, None, is_some}
 use Rattle.rules.specs.declared.Four.{Four}
-use Rattle.rules.specs.declared.Kept.{Kept}
-use Rattle.rules.specs.declared.Kept.TheVariants.{Absent, There}
 use Rattle.rules.specs.declared.Pair.{Pair}
 use Rattle.rules.specs.declared.Point.{Point}
 use Rattle.rules.specs.declared.Point.TheVariants.{Held}
@@ -93,9 +90,9 @@ history = since ++ dealt
 -- what it holds of box 3
 pub record Sight : Type 0 where
   pub told : List ℕ
-  pub completed : Completion
-  pub kept : Kept
-  pub recovered : Kept
+  pub completed : Option ℕ
+  pub kept : Option Pair
+  pub recovered : Option Pair
   pub held : Point
 
 abbrev sight_of : Replay.Past → Sight
@@ -103,8 +100,8 @@ sight_of b =
     record {
       told = map (λ (a : Answer). a.no) b.told;
       completed = b.left.progress.completion;
-      kept = (slot_at b.left 0).pair.kept;
-      recovered = b.left.recovered.kept;
+      kept = (slot_at b.left 0).pair;
+      recovered = b.left.recovered;
       held = (place_at (slot_at b.left 0) 2).point;
     }
 
@@ -121,9 +118,9 @@ abbrev sight_1 : Sight
 sight_1 =
     record {
       told = 0 ∷ 0 ∷ 0 ∷ 13 ∷ 0 ∷ 15 ∷ [];
-      completed = NotYet;
-      kept = There (pair 7 8);
-      recovered = Absent;
+      completed = None;
+      kept = Some (pair 7 8);
+      recovered = None;
       held = Held (four 4 0 6 9);
     }
 
@@ -131,9 +128,9 @@ abbrev sight_2 : Sight
 sight_2 =
     record {
       told = 0 ∷ 0 ∷ 0 ∷ 0 ∷ 0 ∷ 0 ∷ 0 ∷ 0 ∷ 0 ∷ 0 ∷ [];
-      completed = With 0;
-      kept = There (pair 9 4);
-      recovered = There (pair 5 1);
+      completed = Some 0;
+      kept = Some (pair 9 4);
+      recovered = Some (pair 5 1);
       held = Held (four 8 0 9 10);
     }
 
@@ -141,9 +138,9 @@ abbrev sight_3 : Sight
 sight_3 =
     record {
       told = 0 ∷ 0 ∷ 0 ∷ 0 ∷ 0 ∷ 0 ∷ 0 ∷ 7 ∷ 0 ∷ [];
-      completed = With 0;
-      kept = There (pair 0 0);
-      recovered = Absent;
+      completed = Some 0;
+      kept = Some (pair 0 0);
+      recovered = None;
       held = Held (four 1 0 1 0);
     }
 
@@ -209,11 +206,11 @@ pub record Dealt : Type 0 where
   pub held_2 : (f : Four) → (place_at (slot_at (end 2) 0) 2).point ≡ Held f → f ≡ dealt_point class 5 coins 3 2
   pub points : (dealt_point class 5 coins 3 1 ≡ four 4 0 6 9) × (dealt_point class 5 coins 3 2 ≡ four 8 0 9 10)
   -- the shares of boxes 2 and 3, and P2
-  pub share_2 : (slot_at (end 2) 0).pair.kept ≡ There (dealt_share class 5 coins 2)
-  pub share_3 : (slot_at (end 3) 0).pair.kept ≡ There (dealt_share class 5 coins 3)
+  pub share_2 : (slot_at (end 2) 0).pair ≡ Some (dealt_share class 5 coins 2)
+  pub share_3 : (slot_at (end 3) 0).pair ≡ Some (dealt_share class 5 coins 3)
   pub P2 : (dealt_share class 5 coins 2 ≡ pair 9 4) × (dealt_share class 5 coins 3 ≡ pair 0 0)
   -- what box 2 recovers
-  pub recovered : (p : Pair) → (end 2).recovered.kept ≡ There p → (p.first.0 ≡ 5) × (p.second.0 ≡ 1)
+  pub recovered : (p : Pair) → (end 2).recovered ≡ Some p → (p.first.0 ≡ 5) × (p.second.0 ≡ 1)
 
 as_by_hand : (dealt_point class 5 coins 3 1 ≡ four 4 0 6 9)
     × (dealt_point class 5 coins 3 2 ≡ four 8 0 9 10)

@@ -6,12 +6,9 @@
 use Rattle.std.specs.Prelude.{◌≡◌, refl, Bool, true, false, List, [], ◌∷◌, map, ℕ, ◌+◌, length, get_or, take, drop}
 use Rattle.std.proofs.Common.{sym, ap, ◌∙◌}
 use Rattle.rules.specs.declared.Answer.{Answer}
-use Rattle.rules.specs.declared.Completion.{Completion}
-use Rattle.rules.specs.declared.Completion.TheVariants.{With}
+use Rattle.std.specs.Prelude.{Option, Some, None, is_some}
 use Rattle.rules.specs.declared.Element.{Element}
 use Rattle.rules.specs.declared.Four.{Four}
-use Rattle.rules.specs.declared.Kept.{Kept}
-use Rattle.rules.specs.declared.Kept.TheVariants.{There}
 use Rattle.rules.specs.declared.Point.{Point}
 use Rattle.rules.specs.declared.Point.TheVariants.{Held}
 use Rattle.rules.specs.declared.Record.{Record}
@@ -48,16 +45,16 @@ record Looks : Type 0 where
   numbers : List ℕ
   kinds : List Sent
   sent : List ℕ
-  completed : Completion
+  completed : Option ℕ
   used : Bool
   matrix : List (List Element)
   e : ℕ
   r : ℕ
   held : Point
-  pair_kept : Kept
-  kept : Kept
-  share : Kept
-  recovered : Kept
+  pair_kept : Option Pair
+  kept : Option Pair
+  share : Option Pair
+  recovered : Option Pair
   -- how often it has dealt, before its deal and in all; echoed; completed; sent its share, before it was told to and in all
   sends_early : ℕ
   sends : ℕ
@@ -71,10 +68,10 @@ record Looks : Type 0 where
   readies_before : ℕ
   -- the lowest points held at the second ready, and the pair kept
   lowest_then : List (Said Four)
-  pair_then : Kept
+  pair_then : Option Pair
   -- what it had completed with when it was told to recover
-  completed_then : Completion
-  share_then : Kept
+  completed_then : Option ℕ
+  share_then : Option Pair
   -- whether box 2, and 3, were heard before their echoes
   heard_2 : Bool
   heard_3 : Bool
@@ -99,10 +96,10 @@ look b =
       e = e_of b.left D;
       r = r_of b.left D;
       held = (place_at (slot_at b.left 0) 2).point;
-      pair_kept = (slot_at b.left 0).pair.kept;
+      pair_kept = (slot_at b.left 0).pair;
       kept = kept_for b.left D;
       share = share_at b.left.shares 2;
-      recovered = b.left.recovered.kept;
+      recovered = b.left.recovered;
       sends_early = how_many (λ (a : Answer). is_send a.sent) (drop 18 b.told);
       sends = how_many (λ (a : Answer). is_send a.sent) b.told;
       echoes = how_many (λ (a : Answer). is_echo a.sent) b.told;
@@ -115,7 +112,7 @@ look b =
       lowest_then = lowest (came b 8);
       pair_then = kept_for (came b 8) D;
       completed_then = (came b 5).progress.completion;
-      share_then = (slot_at (came b 5) 0).pair.kept;
+      share_then = (slot_at (came b 5) 0).pair;
       heard_2 = heard_for (came b 13) 2 1;
       heard_3 = heard_for (came b 12) 2 2;
     }
@@ -125,16 +122,16 @@ looks : look (life class play)
       numbers = answered;
       kinds = kinds;
       sent = 124 ∷ 92 ∷ 92 ∷ 40 ∷ [];
-      completed = With 0;
+      completed = Some 0;
       used = true;
       matrix = D;
       e = 2;
       r = 3;
       held = Held (point 3);
-      pair_kept = There (pair 7 8);
-      kept = There (pair 7 8);
-      share = There (pair 0 0);
-      recovered = There (pair 5 1);
+      pair_kept = Some (pair 7 8);
+      kept = Some (pair 7 8);
+      share = Some (pair 0 0);
+      recovered = Some (pair 5 1);
       sends_early = 0;
       sends = 1;
       echoes = 1;
@@ -145,9 +142,9 @@ looks : look (life class play)
       readies_then = 1;
       readies_before = 0;
       lowest_then = record { box = 1; says = point 1 } ∷ record { box = 2; says = point 2 } ∷ [];
-      pair_then = There (pair 7 8);
-      completed_then = With 0;
-      share_then = There (pair 7 8);
+      pair_then = Some (pair 7 8);
+      completed_then = Some 0;
+      share_then = Some (pair 7 8);
       heard_2 = false;
       heard_3 = false;
     }
@@ -170,17 +167,17 @@ pub record Life : Type 0 where
   pub kinds : map (λ (a : Answer). a.sent) (answers class play) ≡ kinds
   -- four sends, four echoes, four readies, four recovery shares
   pub sent : map length (sendings class play) ≡ 124 ∷ 92 ∷ 92 ∷ 40 ∷ []
-  pub completed : end.progress.completion ≡ With 0
+  pub completed : end.progress.completion ≡ Some 0
   pub used : (slot_at end 0).used ≡ true
   pub matrix : matrix_of (slot_at end 0) ≡ D
   -- echoes of 2 and 4, readies of 1, 2, 3
   pub e : e_of end D ≡ 2
   pub r : r_of end D ≡ 3
   pub held : (place_at (slot_at end 0) 2).point ≡ Held (point 3)
-  pub pair_kept : (slot_at end 0).pair.kept ≡ There (pair 7 8)
+  pub pair_kept : (slot_at end 0).pair ≡ Some (pair 7 8)
   -- the share of box 3 is truly 0, 0
-  pub shared : share_at end.shares 2 ≡ There (pair 0 0)
-  pub recovered : end.recovered.kept ≡ There (pair 5 1)
+  pub shared : share_at end.shares 2 ≡ Some (pair 0 0)
+  pub recovered : end.recovered ≡ Some (pair 5 1)
   pub sends_early : how_many (λ (a : Answer). is_send a.sent) (answers class early) ≡ 0
   pub sends : how_many (λ (a : Answer). is_send a.sent) (answers class play) ≡ 1
   pub echoes : how_many (λ (a : Answer). is_echo a.sent) (answers class play) ≡ 1
@@ -191,11 +188,11 @@ pub record Life : Type 0 where
   -- the pair was kept when ready was sent, out of the points of 1 and 2, and stays
   pub sends_ready : readies_sent class (moment ∷ before) D ≡ readies_sent class before D + 1
   pub lowest : lowest then ≡ record { box = 1; says = point 1 } ∷ record { box = 2; says = point 2 } ∷ []
-  pub kept : kept_for then D ≡ There (pair 7 8)
-  pub stays : kept_for end D ≡ There (pair 7 8)
+  pub kept : kept_for then D ≡ Some (pair 7 8)
+  pub stays : kept_for end D ≡ Some (pair 7 8)
   -- it has completed when it is told to recover
-  pub completed_then : (after class finished).progress.completion ≡ With 0
-  pub share_then : (slot_at (after class finished) 0).pair.kept ≡ There (pair 7 8)
+  pub completed_then : (after class finished).progress.completion ≡ Some 0
+  pub share_then : (slot_at (after class finished) 0).pair ≡ Some (pair 7 8)
   -- nobody is heard before its echo
   pub heard_2 : heard_for (after class twice) 2 1 ≡ false
   pub heard_3 : heard_for (after class hearing) 2 2 ≡ false
@@ -232,7 +229,7 @@ one_life =
           ∙ ap (λ n. n + 1) (sym (ap (λ l. l.readies_before) all) ∙ readies_sent_lem class D before);
       lowest = ap (λ l. l.lowest_then) all;
       kept = ap (λ l. l.pair_then) all;
-      stays = ap (λ l. l.kept) all;
+      stays = ap (λ l. l) all;
       completed_then = ap (λ l. l.completed_then) all;
       share_then = ap (λ l. l.share_then) all;
       heard_2 = ap (λ l. l.heard_2) all;

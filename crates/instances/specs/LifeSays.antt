@@ -7,12 +7,12 @@ use Rattle.std.specs.Prelude.{◌≡◌, refl, true, ◌∷◌, ◌+◌, ◌≤�
 use Rattle.std.proofs.Common.{sym, ap, subst, ◌∙◌, arith}
 use Rattle.folds.specs.Below.{count_below}
 use Rattle.rules.specs.declared.Answer.{Answer}
-use Rattle.rules.specs.declared.Kept.TheVariants.{There}
+use Rattle.std.specs.Prelude.{Option, Some, None, is_some}
 use Rattle.rules.specs.declared.Point.TheVariants.{Held}
 use Rattle.rules.specs.Matrices.{entry}
 use Rattle.rules.specs.Messages.{echo, matrix_in, polynomials_in, to_each}
 use Rattle.rules.specs.Dealing.{coins_keep, committed, share_check}
-use Rattle.rules.specs.Record.{slot_at, is_there, is_done, matrix_of, sound}
+use Rattle.rules.specs.Record.{slot_at, matrix_of, sound}
 use Rattle.rules.specs.Steps.{share_points, pair_from, echo_four, recovered_from}
 use Rattle.rules.specs.Computed.{computed}
 use Rattle.rules.specs.HandSums.{class, coins, pair, point}
@@ -85,19 +85,19 @@ pub record Says : Type 0 where
   pub r : count_below 10 (λ m. checked class play 3 (m + 1) D) ≡ 3
   pub echoes : wrote (doing (after class start) (gets 1 first 2048))
       ≡ to_each class (λ j. echo (matrix_in class first) (echo_four (order class) 2 (polynomials_in class first) j))
-  pub there : is_there (kept_for end D) ≡ eqb (readies_sent class play D) 1
-  pub kept : There (pair 7 8) ≡ There (pair_from (order class) (lowest then))
-  pub stays : kept_for end D ≡ There (pair 7 8)
+  pub there : is_some (kept_for end D) ≡ eqb (readies_sent class play D) 1
+  pub kept : Some (pair 7 8) ≡ Some (pair_from (order class) (lowest then))
+  pub stays : kept_for end D ≡ Some (pair 7 8)
   -- r is 3, which is k + t
-  pub done : is_done end.progress.completion ≡ true
-  pub completed : is_there (slot_at end 0).pair.kept ≡ true
-  pub share : There (pair 7 8) ≡ kept_for end D
+  pub done : is_some end.progress.completion ≡ true
+  pub completed : is_some (slot_at end 0).pair ≡ true
+  pub share : Some (pair 7 8) ≡ kept_for end D
   pub passes : share_check (group class) 2 (matrix_of (slot_at end 0)) 1 (pair 7 8) ≡ true
   pub opens : committed (group class) 5 1 ≡ entry (matrix_of (slot_at end 0)) 0 0
   pub recovered : pair 5 1 ≡ recovered_from (order class) (share_points end.shares)
   -- of box 3, which said both
   pub point_said : said class play 3 (matrix_of (slot_at end 0)) ≡ Held (point 3)
-  pub share_said_lem : share_said class play 3 ≡ There (pair 0 0)
+  pub share_said_lem : share_said class play 3 ≡ Some (pair 0 0)
 
 pub life_says : Says
 unfolding answers
@@ -109,8 +109,8 @@ life_says =
       r = sym (r_counts_senders class l.taken play D) ∙ l.r;
       echoes = (send_has_its_echo class l.taken start 1 2048 first l.tag (ap (λ ns. get_or ns 16 1) l.numbers)).1;
       there = pair_kept_by_ready class l.taken play D;
-      kept = sym l.kept ∙ pair_of_that_moment class l.taken before moment D l.sends_ready;
-      stays = pair_never_changes class l.taken (moment ∷ before) D (pair 7 8) later l.kept;
+      kept = sym l ∙ pair_of_that_moment class l.taken before moment D l.sends_ready;
+      stays = pair_never_changes class l.taken (moment ∷ before) D (pair 7 8) later l;
       done = enough_readies_complete class l.taken play D (subst (λ r. 3 ≤ r) (sym l.r) (omega arith));
       completed = (completed_has_its_share class l.taken play 0 l.completed).1;
       share = sym l.pair_kept ∙ completed_share_is_the_kept_pair class l.taken play 0 l.completed ∙ ap (kept_for end) l.matrix;

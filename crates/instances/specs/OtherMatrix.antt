@@ -6,17 +6,14 @@
 use Rattle.std.specs.Prelude.{◌≡◌, refl, Bool, true, false, List, [], ◌∷◌, ◌++◌, map, ℕ, ◌≤◌, get_or}
 use Rattle.std.proofs.Common.{sym, ap, subst, ◌∙◌, arith}
 use Rattle.rules.specs.declared.Answer.{Answer}
-use Rattle.rules.specs.declared.Completion.{Completion}
-use Rattle.rules.specs.declared.Completion.TheVariants.{With}
+use Rattle.std.specs.Prelude.{Option, Some, None, is_some}
 use Rattle.rules.specs.declared.Element.{Element}
-use Rattle.rules.specs.declared.Kept.{Kept}
-use Rattle.rules.specs.declared.Kept.TheVariants.{There}
 use Rattle.rules.specs.declared.Record.{Record}
 use Rattle.rules.specs.declared.Sent.{Sent}
 use Rattle.rules.specs.declared.Sent.TheVariants.{Nothing, Ready}
 use Rattle.rules.specs.declared.SetUp.{SetUp}
 use Rattle.rules.specs.Messages.{ready, bytes_of}
-use Rattle.rules.specs.Record.{slot_at, is_done, matrix_of, same_matrix, zero_record}
+use Rattle.rules.specs.Record.{slot_at, matrix_of, same_matrix, zero_record}
 use Rattle.rules.specs.Answers.{set_up}
 use Rattle.rules.specs.Computed.{computed}
 use Rattle.rules.specs.HandSums.{sized, coins, pair}
@@ -57,12 +54,12 @@ record Looks : Type 0 where
   told : List ℕ
   sent : List Sent
   completions : List Bool
-  completed : Completion
+  completed : Option ℕ
   matrix : List (List Element)
-  share : Kept
+  share : Option Pair
   r_5 : ℕ
   r_6 : ℕ
-  kept_6 : Kept
+  kept_6 : Option Pair
   same : Bool
 
 abbrev look : Past → Looks
@@ -74,7 +71,7 @@ look b =
       completions = map (λ (a : Answer). a.completed) b.told;
       completed = then.progress.completion;
       matrix = matrix_of (slot_at then 1);
-      share = (slot_at then 1).pair.kept;
+      share = (slot_at then 1).pair;
       r_5 = r_of b.left (of 5);
       r_6 = r_of b.left (of 6);
       kept_6 = kept_for b.left (of 6);
@@ -86,12 +83,12 @@ looks : look (life numbers play)
       told = 0 ∷ 0 ∷ 0 ∷ 0 ∷ 0 ∷ 0 ∷ 0 ∷ [];
       sent = Nothing ∷ Nothing ∷ Ready ∷ Nothing ∷ Ready ∷ Nothing ∷ Nothing ∷ [];
       completions = false ∷ false ∷ false ∷ true ∷ false ∷ false ∷ false ∷ [];
-      completed = With 1;
+      completed = Some 1;
       matrix = of 5;
-      share = There (pair 7 8);
+      share = Some (pair 7 8);
       r_5 = 3;
       r_6 = 4;
-      kept_6 = There (pair 8 8);
+      kept_6 = Some (pair 8 8);
       same = false;
     }
 unfolding computed doing life takes r_of kept_for
@@ -114,14 +111,14 @@ pub record Counted : Type 0 where
   pub told : map (λ (a : Answer). a.no) (answers numbers play) ≡ 0 ∷ 0 ∷ 0 ∷ 0 ∷ 0 ∷ 0 ∷ 0 ∷ []
   pub sent : map (λ (a : Answer). a.sent) (answers numbers play) ≡ Nothing ∷ Nothing ∷ Ready ∷ Nothing ∷ Ready ∷ Nothing ∷ Nothing ∷ []
   pub completions : map (λ (a : Answer). a.completed) (answers numbers play) ≡ false ∷ false ∷ false ∷ true ∷ false ∷ false ∷ false ∷ []
-  pub completed : then.progress.completion ≡ With 1
+  pub completed : then.progress.completion ≡ Some 1
   pub matrix : matrix_of (slot_at then 1) ≡ of 5
-  pub share : (slot_at then 1).pair.kept ≡ There (pair 7 8)
+  pub share : (slot_at then 1).pair ≡ Some (pair 7 8)
   -- those for the other matrix are counted: in the end there are more than for the completed one
   pub other : same_matrix 2 (of 5) (of 6) ≡ false
   pub r_5 : r_of end (of 5) ≡ 3
   pub r_6 : r_of end (of 6) ≡ 4
-  pub kept_6 : kept_for end (of 6) ≡ There (pair 8 8)
+  pub kept_6 : kept_for end (of 6) ≡ Some (pair 8 8)
 
 pub counted : Counted
 unfolding came_to
@@ -143,13 +140,13 @@ counted =
 -- ---- what the theorems say of it
 
 pub record Unchanged : Type 0 where
-  pub completed : end.progress.completion ≡ With 1
+  pub completed : end.progress.completion ≡ Some 1
   pub matrix : matrix_of (slot_at end 1) ≡ of 5
-  pub share : (slot_at end 1).pair.kept ≡ There (pair 7 8)
+  pub share : (slot_at end 1).pair ≡ Some (pair 7 8)
   -- it is the pair kept for the matrix of the deal of 5
-  pub kept : kept_for end (of 5) ≡ There (pair 7 8)
+  pub kept : kept_for end (of 5) ≡ Some (pair 7 8)
   -- and the readies for the deal of 6 would do as well
-  pub enough : is_done end.progress.completion ≡ true
+  pub enough : is_some end.progress.completion ≡ true
 
 pub unchanged : Unchanged
 unchanged =

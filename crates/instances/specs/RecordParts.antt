@@ -1,8 +1,7 @@
 -- Parts of a record as literals, and the statement that records are sound or not.
 -- Assumes nothing.
 use Rattle.std.specs.Prelude.{◌≡◌, Bool, List, map, ℕ}
-use Rattle.rules.specs.declared.Keep.{Keep}
-use Rattle.rules.specs.declared.Kept.TheVariants.{There}
+use Rattle.std.specs.Prelude.{Option, Some, None, is_some}
 use Rattle.rules.specs.declared.Marks.{Marks}
 use Rattle.rules.specs.declared.Place.{Place}
 use Rattle.rules.specs.declared.Point.TheVariants.{Held}
@@ -17,11 +16,11 @@ abbrev pub holds : ℕ → ℕ → ℕ → ℕ → Place
 holds x x' y y' = record { point = Held (four x x' y y') }
 
 -- a pair that is there
-abbrev pub keeps : ℕ → ℕ → Keep
-keeps s s' = record { kept = There (pair s s') }
+abbrev pub keeps : ℕ → ℕ → Option Pair
+keeps s s' = Some (pair s s')
 
 -- whether it is in use, its matrix, places and marks, and the pair kept
-abbrev pub slot : Bool → List Row → List Place → Marks → Marks → Keep → Slot
+abbrev pub slot : Bool → List Row → List Place → Marks → Marks → Option Pair → Slot
 slot used rows places echoed readied kept =
     record { used = used; rows = rows; places = places; echoed = echoed; readied = readied; pair = kept }
 

@@ -5,8 +5,7 @@
 -- Assumes nothing.
 use Rattle.std.specs.Prelude.{◌≡◌, refl, List, [], ◌∷◌, ◌++◌, ℕ, get_or}
 use Rattle.std.proofs.Common.{sym, ap, subst, ◌∙◌, arith}
-use Rattle.rules.specs.declared.Completion.{Completion}
-use Rattle.rules.specs.declared.Completion.TheVariants.{NotYet, With}
+use Rattle.std.specs.Prelude.{Option, Some, None, is_some}
 use Rattle.rules.specs.declared.Four.{Four}
 use Rattle.rules.specs.declared.Sent.{Sent}
 use Rattle.rules.specs.declared.Sent.TheVariants.{Nothing, Send, Echo, Ready, Recovery}
@@ -166,9 +165,9 @@ bytes_in (deals secret coins lent) = []
 bytes_in (gets sender bytes lent) = bytes
 bytes_in (commanded lent) = []
 
-abbrev place_in : Completion → ℕ
-place_in NotYet = 20
-place_in (With s) = s
+abbrev place_in : Option ℕ → ℕ
+place_in None = 20
+place_in (Some s) = s
 
 pub record EveryByte : Type 0 where
   pub of_the_deal : wrote (doing (after class early) (deals 5 coins 2048)) ≡ sends
@@ -207,7 +206,7 @@ every_byte =
           ∙ ap (λ p. to_each class (λ j. recovery p))
           (ap pair_told
           (sym command.5
-          ∙ ap (λ s. (slot_at (after class finished) (place_in s)).pair.kept) (sym command.4 ∙ one_life.completed_then)
+          ∙ ap (λ s. (slot_at (after class finished) (place_in s)).pair) (sym command.4 ∙ one_life.completed_then)
           ∙ one_life.share_then))
           ∙ shares_are;
     }

@@ -6,7 +6,7 @@ use Rattle.std.specs.Prelude.{◌≡◌, refl, true, List, ◌++◌, ℕ, take}
 use Rattle.std.proofs.Common.{sym, ap, ap₂, ◌∙◌, arith}
 use Rattle.rules.specs.declared.Element.{Element}
 use Rattle.rules.specs.declared.Group.{Group}
-use Rattle.rules.specs.declared.Kept.TheVariants.{Absent, There}
+use Rattle.std.specs.Prelude.{Option, Some, None, is_some}
 use Rattle.rules.specs.declared.Pair.{Pair}
 use Rattle.rules.specs.Numbers.{group_of}
 use Rattle.rules.specs.Matrices.{entry}
@@ -45,10 +45,10 @@ pub record Reads : Type 0 where
   -- the dealt matrix
   pub dealt : C ≡ D
   -- box 2 is silent; box 3 truly says 0, 0, and is verified; box 4 says another pair than its own, and is not
-  pub says_2 : share_at (says sheet) 1 ≡ Absent
-  pub verified_3 : share_at (verified sheet) 2 ≡ There (pair 0 0)
-  pub says_4 : share_at (says sheet) 3 ≡ There (pair 2 1)
-  pub verified_4 : share_at (verified sheet) 3 ≡ Absent
+  pub says_2 : share_at (says sheet) 1 ≡ None
+  pub verified_3 : share_at (verified sheet) 2 ≡ Some (pair 0 0)
+  pub says_4 : share_at (says sheet) 3 ≡ Some (pair 2 1)
+  pub verified_4 : share_at (verified sheet) 3 ≡ None
   pub gives : secret sheet ≡ pair 5 1
   pub boxes : box_lines G k C (numbers sheet).n (says sheet) ≡ text "1 verified\n2 silent\n3 verified\n4 refused 10\n"
   pub last : secret_line (secret sheet) (take k (share_points (verified sheet))) ≡ text "secret 5 1 from 1 3\n"
@@ -75,9 +75,9 @@ pub record Says : Type 0 where
   pub prints : printed sheet ≡ text "1 verified\n2 silent\n3 verified\n4 refused 10\n" ++ text "secret 5 1 from 1 3\n"
   pub opens : committed G 5 1 ≡ 4
   -- box 3 said the pair that it is verified by, which passes; box 2, silent, is not verified
-  pub says_3 : share_at (says sheet) 2 ≡ There (pair 0 0)
+  pub says_3 : share_at (says sheet) 2 ≡ Some (pair 0 0)
   pub passes_3 : share_check G k C 3 (pair 0 0) ≡ true
-  pub verified_2 : share_at (verified sheet) 1 ≡ Absent
+  pub verified_2 : share_at (verified sheet) 1 ≡ None
 
 pub sheet_says : Says
 sheet_says =

@@ -4,8 +4,7 @@
 -- In order: records of a class of ten boxes (E is 6, k is 2, k + t is 3), box 1 of which deals; the clauses.
 -- Assumes nothing.
 use Rattle.std.specs.Prelude.{refl, Bool, true, false, List, [], ◌∷◌, ◌++◌, map, ℕ, replicate}
-use Rattle.rules.specs.declared.Completion.TheVariants.{NotYet, With}
-use Rattle.rules.specs.declared.Keep.{Keep}
+use Rattle.std.specs.Prelude.{Option, Some, None, is_some}
 use Rattle.rules.specs.declared.Marks.{Marks}
 use Rattle.rules.specs.declared.Place.{Place}
 use Rattle.rules.specs.declared.Record.{Record}
@@ -62,7 +61,7 @@ begun a b echoes readies =
       setup = sized 10 1 2;
       slots = a ∷ replicate 18 zero_slot ++ b ∷ [];
       heard = nobody ∷ echoes ∷ readies ∷ nobody ∷ [];
-      progress = record { dealt = false; completion = NotYet; commanded = false };
+      progress = record { dealt = false; completion = None; commanded = false };
       shares = replicate 10 nothing;
       recovered = nothing;
     }
@@ -75,7 +74,7 @@ abbrev three : Marks
 three = record { at = replicate 7 false ++ true ∷ true ∷ true ∷ [] }
 
 -- completed with place 19 by boxes 8, 9 and 10, and commanded: shares of boxes 9 and 10, who is heard for tag 4, the recovered pair
-abbrev recovered : Marks → Keep → Keep → Marks → Keep → Record
+abbrev recovered : Marks → Option Pair → Option Pair → Marks → Option Pair → Record
 recovered readied a b ears pair =
     record {
       setup = sized 10 1 2;
@@ -83,7 +82,7 @@ recovered readied a b ears pair =
           ++ slot true D (replicate 7 silent ++ point 0 0 ∷ point 1 1 ∷ point 2 2 ∷ []) three readied (keeps 7 8)
           ∷ [];
       heard = nobody ∷ three ∷ three ∷ ears ∷ [];
-      progress = record { dealt = true; completion = With 19; commanded = true };
+      progress = record { dealt = true; completion = Some 19; commanded = true };
       shares = replicate 8 nothing ++ a ∷ b ∷ [];
       recovered = pair;
     }
@@ -95,7 +94,7 @@ ten_of_four heard =
       setup = class;
       slots = replicate 20 zero_slot;
       heard = heard;
-      progress = record { dealt = false; completion = NotYet; commanded = false };
+      progress = record { dealt = false; completion = None; commanded = false };
       shares = replicate 10 nothing;
       recovered = nothing;
     }

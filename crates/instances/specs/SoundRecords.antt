@@ -5,9 +5,7 @@
 -- and from completion on.
 -- Assumes nothing.
 use Rattle.std.specs.Prelude.{refl, Bool, true, false, List, [], ◌∷◌, map, ℕ, replicate}
-use Rattle.rules.specs.declared.Completion.{Completion}
-use Rattle.rules.specs.declared.Completion.TheVariants.{NotYet, With}
-use Rattle.rules.specs.declared.Keep.{Keep}
+use Rattle.std.specs.Prelude.{Option, Some, None, is_some}
 use Rattle.rules.specs.declared.Marks.{Marks}
 use Rattle.rules.specs.declared.Place.{Place}
 use Rattle.rules.specs.declared.Record.{Record}
@@ -63,7 +61,7 @@ abbrev three_held : List Place
 three_held = places (holds 10 5 9 6) (holds 0 1 2 3) (holds 4 5 6 7) silent silent
 
 -- places 0 and 1 for matrices, who is heard for tags 1 to 4, and the rest
-abbrev holding : SetUp → Slot → Slot → List Marks → Bool → Completion → Bool → List Keep → Keep → Record
+abbrev holding : SetUp → Slot → Slot → List Marks → Bool → Option ℕ → Bool → List (Option Pair) → Option Pair → Record
 holding u a b heard dealt completion commanded shares recovered =
     record {
       setup = u;
@@ -81,11 +79,11 @@ box_2 = record { group = 1; n = 4; t = 1; k = 2; i = 2; d = 1; session = 7 }
 
 -- nothing but these set-up numbers, and these heard for tag 1
 abbrev new : SetUp → Marks → Record
-new u ears = holding u zero_slot zero_slot (ears ∷ nobody ∷ nobody ∷ nobody ∷ []) false NotYet false (replicate 10 nothing) nothing
+new u ears = holding u zero_slot zero_slot (ears ∷ nobody ∷ nobody ∷ nobody ∷ []) false None false (replicate 10 nothing) nothing
 
 -- not completed, with these matrices and these heard for tags 2 and 3
 abbrev begun : Slot → Slot → Marks → Marks → Record
-begun a b echoes readies = holding box_2 a b (nobody ∷ echoes ∷ readies ∷ nobody ∷ []) false NotYet false (replicate 10 nothing) nothing
+begun a b echoes readies = holding box_2 a b (nobody ∷ echoes ∷ readies ∷ nobody ∷ []) false None false (replicate 10 nothing) nothing
 
 -- the echo of box 1, with this point and entry
 abbrev one_echo : ℕ → Place → Slot
@@ -98,26 +96,26 @@ abbrev one_ready : ℕ → Slot
 one_ready e = slot true (rows e 0 0) (one (holds 0 0 0 0)) nobody first nothing
 
 -- points of boxes 1 and 2
-abbrev two_held_lem : Marks → Marks → Keep → Slot
+abbrev two_held_lem : Marks → Marks → Option Pair → Slot
 two_held_lem = slot true (rows 4 0 0) (places (holds 1 1 1 1) (holds 1 1 1 1) silent silent silent)
 
 -- all echoes, readies of these, and this pair kept
-abbrev echoed : Marks → Keep → Slot
+abbrev echoed : Marks → Option Pair → Slot
 echoed readied kept = slot true (rows 4 0 0) four_held all readied kept
 
 -- completed with a place
 abbrev completed : Slot → Bool → ℕ → Record
 completed a dealt place =
-    holding box_2 a zero_slot (nobody ∷ all ∷ all ∷ nobody ∷ []) dealt (With place) false (replicate 10 nothing) nothing
+    holding box_2 a zero_slot (nobody ∷ all ∷ all ∷ nobody ∷ []) dealt (Some place) false (replicate 10 nothing) nothing
 
 -- shares of boxes 1 to 3, who is heard for tag 4, and the recovered pair
-abbrev recovering : Completion → Bool → Keep → Keep → Keep → Marks → Keep → Record
+abbrev recovering : Option ℕ → Bool → Option Pair → Option Pair → Option Pair → Marks → Option Pair → Record
 recovering completion commanded a b c ears recovered =
     holding class (echoed all (keeps 7 8)) zero_slot (first ∷ all ∷ all ∷ ears ∷ []) true completion commanded
     (a ∷ b ∷ c ∷ replicate 7 nothing) recovered
 
-abbrev recovered : Keep → Keep → Keep → Marks → Keep → Record
-recovered = recovering (With 0) true
+abbrev recovered : Option Pair → Option Pair → Option Pair → Marks → Option Pair → Record
+recovered = recovering (Some 0) true
 
 -- box 5 of four
 abbrev fifth : Marks
@@ -202,10 +200,10 @@ pub record SoundEnds : Type 0 where
       (true ∷ false ∷ false ∷ false ∷ true ∷ [])
   -- "a command needs completion, kept recovery shares a command, at most k are kept, their senders alone are heard for tag 4, and the
   -- recovered pair is there exactly if k are kept"
-  pub command : Sound (recovering (With 0) true nothing nothing nothing nobody nothing
-      ∷ recovering NotYet true nothing nothing nothing nobody nothing
-      ∷ recovering (With 0) true (keeps 7 8) nothing nothing first nothing
-      ∷ recovering (With 0) false (keeps 7 8) nothing nothing first nothing ∷ [])
+  pub command : Sound (recovering (Some 0) true nothing nothing nothing nobody nothing
+      ∷ recovering None true nothing nothing nothing nobody nothing
+      ∷ recovering (Some 0) true (keeps 7 8) nothing nothing first nothing
+      ∷ recovering (Some 0) false (keeps 7 8) nothing nothing first nothing ∷ [])
       (true ∷ false ∷ true ∷ false ∷ [])
   pub at_most_k : Sound (recovered (keeps 7 8) (keeps 9 4) nothing two (keeps 5 1)
       ∷ recovered (keeps 7 8) (keeps 9 4) (keeps 0 0) three (keeps 5 1)

@@ -5,7 +5,7 @@
 -- Assumes nothing.
 use Rattle.std.specs.Prelude.{◌≡◌, refl, Bool, true, false, List, [], ◌∷◌, ◌++◌, ℕ, replicate}
 use Rattle.rules.specs.declared.Answer.{Answer}
-use Rattle.rules.specs.declared.Completion.TheVariants.{With}
+use Rattle.std.specs.Prelude.{Option, Some, None, is_some}
 use Rattle.rules.specs.declared.Element.{Element}
 use Rattle.rules.specs.declared.Marks.{Marks}
 use Rattle.rules.specs.declared.Record.{Record}
@@ -154,7 +154,7 @@ end =
       setup = class;
       slots = its_slot ∷ replicate 19 zero_slot;
       heard = marks true false false false ∷ marks false true true true ∷ marks true true true true ∷ marks true false true false ∷ [];
-      progress = record { dealt = true; completion = With 0; commanded = true };
+      progress = record { dealt = true; completion = Some 0; commanded = true };
       shares = keeps 7 8 ∷ nothing ∷ keeps 0 0 ∷ replicate 7 nothing;
       recovered = keeps 5 1;
     }

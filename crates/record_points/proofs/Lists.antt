@@ -13,9 +13,7 @@ use Rattle.folds.specs.Tests.{pick}
 use Rattle.folds.specs.Stores.{stores_list_more}
 use Rattle.folds.specs.Runs.{gather-same, take_more, map-take, map-gather, length_singles, get_or_singles}
 use Rattle.rules.specs.declared.Four.{Four}
-use Rattle.rules.specs.declared.Keep.{Keep}
-use Rattle.rules.specs.declared.Kept.{Kept}
-use Rattle.rules.specs.declared.Kept.TheVariants.{Absent, There}
+use Rattle.std.specs.Prelude.{Option, Some, None, is_some}
 use Rattle.rules.specs.declared.Pair.{Pair}
 use Rattle.rules.specs.declared.Place.{Place}
 use Rattle.rules.specs.declared.Point.{Point}
@@ -42,17 +40,17 @@ pub considered_none : (k : ℕ) → points_of [] ≡ points_of (take k [])
 considered_none k = rw (take-nil k)
 
 -- One more keep, of which a point is taken if it holds one and fewer than k are taken.
-pub considered_more : (k m : ℕ) (ps : List (Said Pair)) (keep : Keep)
-    → considered k (points_of (take k ps)) (m + 1) keep ≡ points_of (take k (ps ++ kept_at m keep.kept))
+pub considered_more : (k m : ℕ) (ps : List (Said Pair)) (keep : Option Pair)
+    → considered k (points_of (take k ps)) (m + 1) keep ≡ points_of (take k (ps ++ kept_at m keep))
 unfolding considered points_of
-considered_more k m ps keep = go (leb k (length (take k ps))) refl keep.kept
+considered_more k m ps keep = go (leb k (length (take k ps))) refl keep
   where
-    go : (b : Bool) → leb k (length (take k ps)) ≡ b → (kept : Kept)
+    go : (b : Bool) → leb k (length (take k ps)) ≡ b → (kept : Option Pair)
         → pick b (points_of (take k ps)) (kept_point (points_of (take k ps)) (m + 1) kept) ≡ points_of (take k (ps ++ kept_at m kept))
-    go true e Absent = ap (λ (l : List (Said Pair)). points_of (take k l)) (sym (append-nil ps))
-    go false e Absent = ap (λ (l : List (Said Pair)). points_of (take k l)) (sym (append-nil ps))
-    go true e (There s) = rw (take_more k ps, e)
-    go false e (There s) = rw (take_more k ps, e) (sym (points_of_more (take k ps) (record { box = m + 1; says = s })))
+    go true e None = ap (λ (l : List (Said Pair)). points_of (take k l)) (sym (append-nil ps))
+    go false e None = ap (λ (l : List (Said Pair)). points_of (take k l)) (sym (append-nil ps))
+    go true e (Some s) = rw (take_more k ps, e)
+    go false e (Some s) = rw (take_more k ps, e) (sym (points_of_more (take k ps) (record { box = m + 1; says = s })))
 
 -- ---- the list that the arrays say
 
@@ -90,7 +88,7 @@ side_points_lem a k places =
     held m (Held f) = refl
 
     at : (m : ℕ) → kept_at m (share_at (map (side_kept a) places) m) ≡ map (side_point a) (held_at m (get_or places m silent).point)
-    at m = ap (λ (x : Keep). kept_at m x.kept) (get_or-map (side_kept a) places m silent) ∙ held m (get_or places m silent).point
+    at m = ap (λ (x : Option Pair). kept_at m x) (get_or-map (side_kept a) places m silent) ∙ held m (get_or places m silent).point
 
 -- Both sides stand at the same boxes.
 pub side_count : (a b : Bool) (ps : List (Said Four)) → (points_of (side_points a ps)).count ≡ (points_of (side_points b ps)).count

@@ -8,9 +8,7 @@ use native.Mathlib.Omega.{arith}
 use lib.ListN.{length, take, length-take, length-map, get_or-map}
 use Rattle.folds.specs.Runs.{every_nil, every_cons, every_gather_below, every_take, Every}
 use Rattle.rules.specs.declared.Exponent.{Exponent}
-use Rattle.rules.specs.declared.Keep.{Keep}
-use Rattle.rules.specs.declared.Kept.{Kept}
-use Rattle.rules.specs.declared.Kept.TheVariants.{Absent, There}
+use Rattle.std.specs.Prelude.{Option, Some, None, is_some}
 use Rattle.rules.specs.declared.Pair.{Pair}
 use Rattle.rules.specs.declared.Place.{Place}
 use Rattle.rules.specs.Record.{share_at}
@@ -26,7 +24,7 @@ use Rattle.record_points.proofs.Lists.{said_of, side_points_lem, side_count, sid
 abbrev Numbered : List (Said Pair) → Type 0
 Numbered ps = Every (λ p. p.box ≤ 10) nobody ps
 
-kept_numbered : (k : ℕ) (keeps : List Keep) → Numbered (take k (share_points keeps))
+kept_numbered : (k : ℕ) (keeps : List (Option Pair)) → Numbered (take k (share_points keeps))
 unfolding share_points
 kept_numbered k keeps =
     every_take (λ p. p.box ≤ 10) nobody k _
@@ -35,13 +33,13 @@ kept_numbered k keeps =
     none : Numbered []
     none = every_nil (λ p. p.box ≤ 10) nobody
 
-    one : (m : ℕ) → m < 10 → (kept : Kept) → Numbered (kept_at m kept)
-    one m h Absent = none
-    one m h (There s) = every_cons (λ p. p.box ≤ 10) nobody (record { box = m + 1; says = s }) [] (omega arith) none
+    one : (m : ℕ) → m < 10 → (kept : Option Pair) → Numbered (kept_at m kept)
+    one m h None = none
+    one m h (Some s) = every_cons (λ p. p.box ≤ 10) nobody (record { box = m + 1; says = s }) [] (omega arith) none
 
 module _ (q k : ℕ) (asked : Lowest q k) where
   -- The k lowest pairs kept: what the functions ask for, and the list that they say.
-  pub kept_fit : (keeps : List Keep) → Fit q (points_of (take k (share_points keeps)))
+  pub kept_fit : (keeps : List (Option Pair)) → Fit q (points_of (take k (share_points keeps)))
   unfolding points_of
   kept_fit keeps =
       let ps = take k (share_points keeps) in
@@ -54,7 +52,7 @@ module _ (q k : ℕ) (asked : Lowest q k) where
             omega (arith, kept_numbered k keeps j l, asked.order);
       }
 
-  pub kept_said : (keeps : List Keep) → said_by (points_of (take k (share_points keeps))) ≡ take k (share_points keeps)
+  pub kept_said : (keeps : List (Option Pair)) → said_by (points_of (take k (share_points keeps))) ≡ take k (share_points keeps)
   kept_said keeps = said_of _ (omega (arith, length-take k (share_points keeps), asked.few))
 
   -- ---- both sides of places

@@ -5,9 +5,7 @@ use Rattle.std.proofs.Common.{arith}
 use Rattle.folds.specs.Tests.{pick}
 use Rattle.folds.specs.Stores.{stores, get_or-stores}
 use Rattle.rules.specs.declared.Four.{Four}
-use Rattle.rules.specs.declared.Keep.{Keep}
-use Rattle.rules.specs.declared.Kept.{Kept}
-use Rattle.rules.specs.declared.Kept.TheVariants.{Absent, There}
+use Rattle.std.specs.Prelude.{Option, Some, None, is_some}
 use Rattle.rules.specs.declared.Pair.{Pair}
 use Rattle.rules.specs.declared.Place.{Place}
 use Rattle.rules.specs.declared.Point.{Point}
@@ -48,12 +46,12 @@ with_point p number s =
       second = set p.second p.count s.second;
     }
 
-abbrev pub kept_point : Points → ℕ → Kept → Points
-kept_point p number Absent = p
-kept_point p number (There s) = with_point p number s
+abbrev pub kept_point : Points → ℕ → Option Pair → Points
+kept_point p number None = p
+kept_point p number (Some s) = with_point p number s
 
-unfoldable pub considered : ℕ → Points → ℕ → Keep → Points
-considered k p number keep = pick (leb k p.count) p (kept_point p number keep.kept)
+unfoldable pub considered : ℕ → Points → ℕ → Option Pair → Points
+considered k p number keep = pick (leb k p.count) p (kept_point p number keep)
 
 -- ---- the sides of a sender's place
 
@@ -62,12 +60,12 @@ abbrev pub side : Bool → Four → Pair
 side true f = record { first = f.beta; second = f.beta2 }
 side false f = record { first = f.alpha; second = f.alpha2 }
 
-abbrev pub side_held : Bool → Point → Kept
-side_held a Silent = Absent
-side_held a (Held f) = There (side a f)
+abbrev pub side_held : Bool → Point → Option Pair
+side_held a Silent = None
+side_held a (Held f) = Some (side a f)
 
-abbrev pub side_kept : Bool → Place → Keep
-side_kept a place = record { kept = side_held a place.point }
+abbrev pub side_kept : Bool → Place → Option Pair
+side_kept a place = side_held a place.point
 
 abbrev pub side_point : Bool → Said Four → Said Pair
 side_point a p = record { box = p.box; says = side a p.says }

@@ -7,12 +7,11 @@ use Rattle.std.proofs.Common.{ap}
 use Rattle.std.proofs.lemmas.Bool.{not-true}
 use Rattle.folds.specs.Tests.{◌and◌, same, implies, and_left, and_right, and_intro, same_eq, eq_same}
 use Rattle.folds.specs.Below.{all_below, all_below_at, all_below_all}
-use Rattle.rules.specs.declared.Kept.{Kept}
-use Rattle.rules.specs.declared.Kept.TheVariants.{Absent, There}
+use Rattle.std.specs.Prelude.{Option, Some, None, is_some}
 use Rattle.rules.specs.declared.Record.{Record}
 use Rattle.rules.specs.declared.Slot.{Slot}
 use Rattle.rules.specs.Numbers.{group_keeps, numbers_keep}
-use Rattle.rules.specs.Record.{group_in, slot_at, share_at, heard_for, is_there, is_done, shares_kept, kept_below, setup_keeps, slot_below, exponents_below, matrices_differ, matrices_pass, marks_keep, places_keep, use_keeps, pair_keeps, completion_keeps, recovery_keeps, dealt_keeps, entries_zero, unused_zero, sound}
+use Rattle.rules.specs.Record.{group_in, slot_at, share_at, heard_for, shares_kept, kept_below, setup_keeps, slot_below, exponents_below, matrices_differ, matrices_pass, marks_keep, places_keep, use_keeps, pair_keeps, completion_keeps, recovery_keeps, dealt_keeps, entries_zero, unused_zero, sound}
 use Rattle.rules.proofs.Laws.Clauses.{clauses, is_sound}
 use Rattle.record_clauses.specs.Clauses.{every_slot, slot_keeps, passes_in, differ_from, all_differ}
 use Rattle.record_soundness.specs.Clauses.{share_keeps, shares_keep, recovery_passes, senders_clear}
@@ -62,34 +61,34 @@ module _ (x : Record) (slot : Slot) where
 -- ---- recovery
 
 -- what the clauses say of a share
-record ShareTests (q : ℕ) (commanded heard : Bool) (kept : Kept) : Type 0 where
+record ShareTests (q : ℕ) (commanded heard : Bool) (kept : Option Pair) : Type 0 where
   below : kept_below q kept ≡ true
-  command : implies (is_there kept) commanded ≡ true
-  alone : same heard (is_there kept) ≡ true
+  command : implies (is_some kept) commanded ≡ true
+  alone : same heard (is_some kept) ≡ true
 
-share_tests : (q : ℕ) (commanded heard : Bool) (kept : Kept) → share_keeps q commanded heard kept ≡ true → ShareTests q commanded heard kept
-share_tests q c h Absent e = record { below = refl; command = refl; alone = eq_same h false (not-true h e) }
-share_tests q c h (There s) e =
+share_tests : (q : ℕ) (commanded heard : Bool) (kept : Option Pair) → share_keeps q commanded heard kept ≡ true → ShareTests q commanded heard kept
+share_tests q c h None e = record { below = refl; command = refl; alone = eq_same h false (not-true h e) }
+share_tests q c h (Some s) e =
     let rest = and_right h _ e in
     record { below = and_right c _ rest; command = and_left c _ rest; alone = eq_same h true (and_left h _ e) }
 
-share_keeps_lem : (q : ℕ) (commanded heard : Bool) (kept : Kept) → ShareTests q commanded heard kept → share_keeps q commanded heard kept ≡ true
-share_keeps_lem q c h Absent t = ap not (same_eq h false t.alone)
-share_keeps_lem q c h (There s) t = rw (same_eq h true t.alone, t.command) t.below
+share_keeps_lem : (q : ℕ) (commanded heard : Bool) (kept : Option Pair) → ShareTests q commanded heard kept → share_keeps q commanded heard kept ≡ true
+share_keeps_lem q c h None t = ap not (same_eq h false t.alone)
+share_keeps_lem q c h (Some s) t = rw (same_eq h true t.alone, t.command) t.below
 
 -- what is stored of recovery: the numbers, and the clause on recovery
 abbrev stored_below : Record → Bool
-stored_below x = all_below 10 (λ m. kept_below (group_in x).q (share_at x.shares m)) and kept_below (group_in x).q x.recovered.kept
+stored_below x = all_below 10 (λ m. kept_below (group_in x).q (share_at x.shares m)) and kept_below (group_in x).q x.recovered
 
 -- the parts of both
 abbrev done : Record → Bool
-done x = implies x.progress.commanded (is_done x.progress.completion)
+done x = implies x.progress.commanded (is_some x.progress.completion)
 
 abbrev few : Record → Bool
 few x = leb (shares_kept x.shares) x.setup.k
 
 abbrev given : Record → Bool
-given x = same (is_there x.recovered.kept) (eqb (shares_kept x.shares) x.setup.k)
+given x = same (is_some x.recovered) (eqb (shares_kept x.shares) x.setup.k)
 
 abbrev below : Record → ℕ → Bool
 below x m = kept_below (group_in x).q (share_at x.shares m)
@@ -98,10 +97,10 @@ abbrev shares : Record → ℕ → Bool
 shares x m = share_keeps (group_in x).q x.progress.commanded (heard_for x 4 m) (share_at x.shares m)
 
 abbrev commands : Record → ℕ → Bool
-commands x m = implies (is_there (share_at x.shares m)) x.progress.commanded
+commands x m = implies (is_some (share_at x.shares m)) x.progress.commanded
 
 abbrev alone : Record → ℕ → Bool
-alone x m = same (heard_for x 4 m) (is_there (share_at x.shares m))
+alone x m = same (heard_for x 4 m) (is_some (share_at x.shares m))
 
 module _ (x : Record) where
   recovery_passes_lem : stored_below x ≡ true → recovery_keeps x ≡ true → recovery_passes (group_in x).q x ≡ true

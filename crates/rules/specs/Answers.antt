@@ -6,10 +6,7 @@
 use Rattle.std.specs.Prelude.{◌≡◌, Bool, true, false, not, List, [], ◌∷◌, ◌++◌, map, ℕ, ◌-◌, eqb, ltb, length}
 use Rattle.folds.specs.Tests.{◌and◌, ◌or◌, pick}
 use Rattle.rules.specs.declared.Pair.{Pair}
-use Rattle.rules.specs.declared.Kept.{Kept}
-use Rattle.rules.specs.declared.Kept.TheVariants.{Absent, There}
-use Rattle.rules.specs.declared.Completion.{Completion}
-use Rattle.rules.specs.declared.Completion.TheVariants.{NotYet, With}
+use Rattle.std.specs.Prelude.{Option, Some, None, is_some}
 use Rattle.rules.specs.declared.Record.{Record}
 use Rattle.rules.specs.declared.SetUp.{SetUp}
 use Rattle.rules.specs.declared.Sent.TheVariants.{Nothing}
@@ -18,7 +15,7 @@ use Rattle.rules.specs.declared.Outcome.{Outcome}
 use Rattle.rules.specs.Numbers.{exponent, group_of, group_keeps, numbers_keep, is_box}
 use Rattle.rules.specs.Messages.{Message, send, echo, ready, recovery, tag_in, has_matrix, malformed, foreign, message_in, matrix_in, written}
 use Rattle.rules.specs.Dealing.{coins_keep, matrix_passes, polynomials_below, four_below, pair_below, polynomial_check, point_check, share_check}
-use Rattle.rules.specs.Record.{group_in, slot_at, heard_for, is_there, is_done, matrix_of, new_record, zero_record, sound}
+use Rattle.rules.specs.Record.{group_in, slot_at, heard_for, matrix_of, new_record, zero_record, sound}
 use Rattle.rules.specs.Steps.{Step, heard, message_step, deal_step, recover_step, quiet}
 
 -- ---- refusals and their order
@@ -60,9 +57,9 @@ abbrev pub no_pair : Pair
 no_pair = record { first = exponent 0; second = exponent 0 }
 
 -- "which (0, 0 with "no" if it did not)"
-abbrev pub pair_told : Kept → Pair
-pair_told Absent = no_pair
-pair_told (There s) = s
+abbrev pub pair_told : Option Pair → Pair
+pair_told None = no_pair
+pair_told (Some s) = s
 
 -- "0 is accepted, with what was sent, bytes written, whether the box completed just now, and whether this call
 -- recovered a pair, and which"
@@ -74,7 +71,7 @@ accepted x =
         sent = x.sent;
         bytes = length x.bytes;
         completed = x.completed;
-        recovered = is_there x.recovered;
+        recovered = is_some x.recovered;
         pair = pair_told x.recovered;
       };
       next = x.after;
@@ -146,7 +143,7 @@ Deals x secret coins buffer o buffer' = done o buffer' ≡ deal x secret coins b
 unfoldable pub own_recover_rows : Record → List Refusal
 own_recover_rows x =
     -- "recovery command before completion or a second time"
-    13 when not (is_done x.progress.completion) or x.progress.commanded
+    13 when not (is_some x.progress.completion) or x.progress.commanded
     ∷ []
 
 unfoldable pub recover_rows : Record → ℕ → List Refusal
@@ -169,9 +166,9 @@ exponents_keep u (ready C f) = four_below (group_of u.group).q f
 exponents_keep u (recovery s) = pair_below (group_of u.group).q s
 
 -- the check of a message's kind, from box m; a recovery share is checked against the completed matrix
-abbrev pub share_checks : Record → Completion → ℕ → Pair → Bool
-share_checks x NotYet m s = false
-share_checks x (With c) m s = share_check (group_in x) x.setup.k (matrix_of (slot_at x c)) m s
+abbrev pub share_checks : Record → Option ℕ → ℕ → Pair → Bool
+share_checks x None m s = false
+share_checks x (Some c) m s = share_check (group_in x) x.setup.k (matrix_of (slot_at x c)) m s
 
 abbrev pub checks : Record → ℕ → Message → Bool
 checks x m (send C P) = polynomial_check (group_in x) x.setup.k C x.setup.i P
@@ -194,9 +191,9 @@ turn_rows x sender bytes =
     -- "a send from a box other than d"
     4 when eqb (tag_in bytes) 1 and not (eqb sender x.setup.d)
     -- "recovery share before this box has completed and been commanded"
-    ∷ 5 when eqb (tag_in bytes) 4 and not (is_done x.progress.completion and x.progress.commanded)
+    ∷ 5 when eqb (tag_in bytes) 4 and not (is_some x.progress.completion and x.progress.commanded)
     -- "recovery share after the pair was given"
-    ∷ 6 when eqb (tag_in bytes) 4 and is_there x.recovered.kept
+    ∷ 6 when eqb (tag_in bytes) 4 and is_some x.recovered
     -- "sender already heard for this tag"
     ∷ 7 when heard_for x (tag_in bytes) (sender - 1)
     ∷ []

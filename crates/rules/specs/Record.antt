@@ -3,6 +3,7 @@
 -- In order: reading the record; the record of a new box; the sentence "A record is sound when ..", clause by clause.
 -- Index m of an array that has a place for each box stands for box m + 1, and index s of the slots for place s.
 -- Assumes nothing.
+use Rattle.rules.specs.declared.Pair.{Pair}
 use Rattle.std.specs.Prelude.{Bool, true, false, not, List, [], map, ℕ, ◌+◌, ◌-◌, eqb, leb, ltb, get_or, replicate}
 use Rattle.folds.specs.Tests.{◌and◌, ◌or◌, same, implies}
 use Rattle.folds.specs.Below.{all_below, any_below, count_below}
@@ -12,14 +13,9 @@ use Rattle.rules.specs.declared.SetUp.{SetUp}
 use Rattle.rules.specs.declared.Point.{Point}
 use Rattle.rules.specs.declared.Point.TheVariants.{Silent, Held}
 use Rattle.rules.specs.declared.Place.{Place}
-use Rattle.rules.specs.declared.Kept.{Kept}
-use Rattle.rules.specs.declared.Kept.TheVariants.{Absent, There}
-use Rattle.rules.specs.declared.Keep.{Keep}
-use Rattle.rules.specs.declared.Row.{Row}
+use Rattle.std.specs.Prelude.{Option, Some, None, is_some}
 use Rattle.rules.specs.declared.Marks.{Marks}
 use Rattle.rules.specs.declared.Slot.{Slot}
-use Rattle.rules.specs.declared.Completion.{Completion}
-use Rattle.rules.specs.declared.Completion.TheVariants.{NotYet, With}
 use Rattle.rules.specs.declared.Record.{Record}
 use Rattle.rules.specs.Numbers.{element, group_of, group_keeps, numbers_keep, echo_quorum}
 use Rattle.rules.specs.Matrices.{entry}
@@ -30,11 +26,8 @@ use Rattle.rules.specs.Dealing.{matrix_passes, four_below, pair_below}
 abbrev pub silent : Place
 silent = record { point = Silent }
 
-abbrev pub nothing : Keep
-nothing = record { kept = Absent }
-
-abbrev pub no_row : Row
-no_row = record { at = [] }
+abbrev pub nothing : Option Pair
+nothing = None
 
 abbrev pub no_marks : Marks
 no_marks = record { at = [] }
@@ -57,26 +50,15 @@ heard_for x tag m = marked (get_or x.heard (tag - 1) no_marks) m
 abbrev pub place_at : Slot → ℕ → Place
 place_at slot m = get_or slot.places m silent
 
-abbrev pub share_at : List Keep → ℕ → Kept
-share_at shares m = (get_or shares m nothing).kept
-
-abbrev pub row_at : Row → List Element
-row_at x = x.at
+abbrev pub share_at : List (Option Pair) → ℕ → Option Pair
+share_at shares m = get_or shares m nothing
 
 unfoldable pub matrix_of : Slot → List (List Element)
-matrix_of slot = map row_at slot.rows
+matrix_of slot = slot.rows
 
 abbrev pub is_held : Point → Bool
 is_held Silent = false
 is_held (Held f) = true
-
-abbrev pub is_there : Kept → Bool
-is_there Absent = false
-is_there (There s) = true
-
-abbrev pub is_done : Completion → Bool
-is_done NotYet = false
-is_done (With s) = true
 
 abbrev pub held : Slot → ℕ → Bool
 held slot m = is_held (place_at slot m).point
@@ -89,8 +71,8 @@ unfoldable pub count_r : Slot → ℕ
 count_r slot = count_below 10 (marked slot.readied)
 
 -- how many recovery shares are kept
-unfoldable pub shares_kept : List Keep → ℕ
-shares_kept shares = count_below 10 (λ m. is_there (share_at shares m))
+unfoldable pub shares_kept : List (Option Pair) → ℕ
+shares_kept shares = count_below 10 (λ m. is_some (share_at shares m))
 
 -- two matrices agree in the first k rows and columns
 unfoldable pub same_matrix : ℕ → List (List Element) → List (List Element) → Bool
@@ -102,7 +84,7 @@ unfoldable pub zero_slot : Slot
 zero_slot =
     record {
       used = false;
-      rows = replicate 8 (record { at = replicate 8 (element 0) });
+      rows = replicate 8 (replicate 8 (element 0));
       places = replicate 10 silent;
       echoed = record { at = replicate 10 false };
       readied = record { at = replicate 10 false };
@@ -115,7 +97,7 @@ new_record s =
       setup = s;
       slots = replicate 20 zero_slot;
       heard = replicate 4 (record { at = replicate 10 false });
-      progress = record { dealt = false; completion = NotYet; commanded = false };
+      progress = record { dealt = false; completion = None; commanded = false };
       shares = replicate 10 nothing;
       recovered = nothing;
     }
@@ -133,18 +115,18 @@ abbrev pub point_below : ℕ → Point → Bool
 point_below q Silent = true
 point_below q (Held f) = four_below q f
 
-abbrev pub kept_below : ℕ → Kept → Bool
-kept_below q Absent = true
-kept_below q (There s) = pair_below q s
+abbrev pub kept_below : ℕ → Option Pair → Bool
+kept_below q None = true
+kept_below q (Some s) = pair_below q s
 
 unfoldable pub slot_below : ℕ → Slot → Bool
-slot_below q slot = all_below 10 (λ m. point_below q (place_at slot m).point) and kept_below q slot.pair.kept
+slot_below q slot = all_below 10 (λ m. point_below q (place_at slot m).point) and kept_below q slot.pair
 
 unfoldable pub exponents_below : Record → Bool
 exponents_below x =
     all_below 20 (λ s. slot_below (group_in x).q (slot_at x s))
     and all_below 10 (λ m. kept_below (group_in x).q (share_at x.shares m))
-    and kept_below (group_in x).q x.recovered.kept
+    and kept_below (group_in x).q x.recovered
 
 -- "matrices in use are different and would pass refusal 8;"
 unfoldable pub matrices_differ : Record → Bool
@@ -177,22 +159,22 @@ use_keeps slot = same slot.used (any_below 10 (held slot))
 
 -- "a kept pair is there exactly if e ≥ E or r ≥ k;"
 unfoldable pub pair_keeps : SetUp → Slot → Bool
-pair_keeps u slot = same (is_there slot.pair.kept) (leb (echo_quorum u) (count_e slot) or leb u.k (count_r slot))
+pair_keeps u slot = same (is_some slot.pair) (leb (echo_quorum u) (count_e slot) or leb u.k (count_r slot))
 
 -- "a completed box has one completed matrix in use, with r ≥ k + t;"
-abbrev pub completion_keeps : Record → Completion → Bool
-completion_keeps x NotYet = true
-completion_keeps x (With s) = ltb s 20 and (slot_at x s).used and leb (x.setup.k + x.setup.t) (count_r (slot_at x s))
+abbrev pub completion_keeps : Record → Option ℕ → Bool
+completion_keeps x None = true
+completion_keeps x (Some s) = ltb s 20 and (slot_at x s).used and leb (x.setup.k + x.setup.t) (count_r (slot_at x s))
 
 -- "a command needs completion, kept recovery shares a command, at most k are kept, their senders alone are heard for
 -- tag 4, and the recovered pair is there exactly if k are kept;"
 unfoldable pub recovery_keeps : Record → Bool
 recovery_keeps x =
-    implies x.progress.commanded (is_done x.progress.completion)
-    and all_below 10 (λ m. implies (is_there (share_at x.shares m)) x.progress.commanded)
+    implies x.progress.commanded (is_some x.progress.completion)
+    and all_below 10 (λ m. implies (is_some (share_at x.shares m)) x.progress.commanded)
     and leb (shares_kept x.shares) x.setup.k
-    and all_below 10 (λ m. same (heard_for x 4 m) (is_there (share_at x.shares m)))
-    and same (is_there x.recovered.kept) (eqb (shares_kept x.shares) x.setup.k)
+    and all_below 10 (λ m. same (heard_for x 4 m) (is_some (share_at x.shares m)))
+    and same (is_some x.recovered) (eqb (shares_kept x.shares) x.setup.k)
 
 -- "only box d has dealt;"
 unfoldable pub dealt_keeps : Record → Bool
@@ -208,7 +190,7 @@ unfoldable pub sender_zero : Record → ℕ → Bool
 sender_zero x m =
     all_below 20 (λ s. not (held (slot_at x s) m) and not (echo_mark x m s) and not (ready_mark x m s))
     and all_below 4 (λ t. not (heard_for x (t + 1) m))
-    and not (is_there (share_at x.shares m))
+    and not (is_some (share_at x.shares m))
 
 unfoldable pub unused_zero : Record → Bool
 unused_zero x =

@@ -11,9 +11,7 @@ use Rattle.folds.specs.Stores.{stores}
 use Rattle.folds.specs.Runs.{gather}
 use Rattle.rules.specs.declared.Element.{Element}
 use Rattle.rules.specs.declared.Group.{Group}
-use Rattle.rules.specs.declared.Keep.{Keep}
-use Rattle.rules.specs.declared.Kept.{Kept}
-use Rattle.rules.specs.declared.Kept.TheVariants.{Absent, There}
+use Rattle.std.specs.Prelude.{Option, Some, None, is_some}
 use Rattle.rules.specs.declared.Pair.{Pair}
 use Rattle.rules.specs.declared.SetUp.{SetUp}
 use Rattle.rules.specs.declared.Verdict.{Verdict}
@@ -60,15 +58,13 @@ line_place b i zero = i
 line_place b i (suc m) = next_line b (line_place b i m)
 
 -- what the box of the line from i on says: its pair, or nothing
-unfoldable pub said_at : List ℕ → ℕ → Keep
+unfoldable pub said_at : List ℕ → ℕ → Option Pair
 said_at b i =
-    record {
-      kept = pick (is_silent b i) Absent
-          (There (record { first = exponent (number_at b (says_place b i) 0); second = exponent (number_at b (says_place b i) 1) }));
-    }
+    pick (is_silent b i) None
+          (Some (record { first = exponent (number_at b (says_place b i) 0); second = exponent (number_at b (says_place b i) 1) }))
 
 -- what boxes 1 to n say
-unfoldable pub sheet_shares : List ℕ → ℕ → ℕ → List Keep
+unfoldable pub sheet_shares : List ℕ → ℕ → ℕ → List (Option Pair)
 sheet_shares b i n = stores n (λ m. said_at b (line_place b i m)) (replicate 10 nothing)
 
 -- ---- its form
@@ -95,9 +91,9 @@ rest_keeps b n k =
 -- ---- the verdict on each box
 
 -- the share check for box m: "A box's number pair with a number ≥ q prints "refused 9" on its line."
-abbrev pub verdict : Group → ℕ → List (List Element) → ℕ → Kept → Verdict
-verdict G k C m Absent = Silent
-verdict G k C m (There s) = pick (not (pair_below G.q s)) (Refused 9) (pick (not (share_check G k C m s)) (Refused 10) Verified)
+abbrev pub verdict : Group → ℕ → List (List Element) → ℕ → Option Pair → Verdict
+verdict G k C m None = Silent
+verdict G k C m (Some s) = pick (not (pair_below G.q s)) (Refused 9) (pick (not (share_check G k C m s)) (Refused 10) Verified)
 
 abbrev pub is_verified : Verdict → Bool
 is_verified Silent = false
@@ -105,10 +101,10 @@ is_verified Verified = true
 is_verified (Refused x) = false
 
 -- what boxes 1 to n say, of those that are verified
-unfoldable pub verified_shares : Group → ℕ → List (List Element) → ℕ → List Keep → List Keep
+unfoldable pub verified_shares : Group → ℕ → List (List Element) → ℕ → List (Option Pair) → List (Option Pair)
 verified_shares G k C n shares =
     stores n
-    (λ m. record { kept = pick (is_verified (verdict G k C (m + 1) (share_at shares m))) (share_at shares m) Absent })
+    (λ m. (pick (is_verified (verdict G k C (m + 1) (share_at shares m))) (share_at shares m) None))
     (replicate 10 nothing)
 
 -- ---- the lines
@@ -119,7 +115,7 @@ verdict_text Verified = text "verified\n"
 verdict_text (Refused x) = text "refused " ++ decimal x ++ text "\n"
 
 -- "One line a box"
-unfoldable pub box_lines : Group → ℕ → List (List Element) → ℕ → List Keep → List ℕ
+unfoldable pub box_lines : Group → ℕ → List (List Element) → ℕ → List (Option Pair) → List ℕ
 box_lines G k C n shares = gather n (λ m. decimal (m + 1) ++ text " " ++ verdict_text (verdict G k C (m + 1) (share_at shares m)))
 
 -- "then the pair and the k lowest verified boxes"
@@ -144,7 +140,7 @@ last_line q k ps = pick (ltb (length ps) k) (no_secret_line (length ps) k) (secr
 -- ---- what is printed
 
 -- the lines of a sheet that passes every test
-unfoldable pub sheet_lines : Group → ℕ → List (List Element) → ℕ → List Keep → List ℕ
+unfoldable pub sheet_lines : Group → ℕ → List (List Element) → ℕ → List (Option Pair) → List ℕ
 sheet_lines G k C n shares = box_lines G k C n shares ++ last_line G.q k (share_points (verified_shares G k C n shares))
 
 -- the sheet of a group and sizes that keep their rules

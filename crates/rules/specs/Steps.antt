@@ -14,14 +14,9 @@ use Rattle.rules.specs.declared.Polynomials.{Polynomials}
 use Rattle.rules.specs.declared.Point.{Point}
 use Rattle.rules.specs.declared.Point.TheVariants.{Silent, Held}
 use Rattle.rules.specs.declared.Place.{Place}
-use Rattle.rules.specs.declared.Kept.{Kept}
-use Rattle.rules.specs.declared.Kept.TheVariants.{Absent, There}
-use Rattle.rules.specs.declared.Keep.{Keep}
-use Rattle.rules.specs.declared.Row.{Row}
+use Rattle.std.specs.Prelude.{Option, Some, None, is_some}
 use Rattle.rules.specs.declared.Marks.{Marks}
 use Rattle.rules.specs.declared.Slot.{Slot}
-use Rattle.rules.specs.declared.Completion.{Completion}
-use Rattle.rules.specs.declared.Completion.TheVariants.{NotYet, With}
 use Rattle.rules.specs.declared.Progress.{Progress}
 use Rattle.rules.specs.declared.Record.{Record}
 use Rattle.rules.specs.declared.SetUp.{SetUp}
@@ -33,7 +28,7 @@ use Rattle.rules.specs.Numbers.{exponent, echo_quorum}
 use Rattle.rules.specs.Matrices.{α, α', β, β'}
 use Rattle.rules.specs.Messages.{Message, send, echo, ready, recovery, to_each}
 use Rattle.rules.specs.Dealing.{value_at, f_of, f'_of, commitment, polynomials_of}
-use Rattle.rules.specs.Record.{silent, no_marks, group_in, slot_at, place_at, share_at, is_done, matrix_of, same_matrix, shares_kept, zero_slot, count_e, count_r}
+use Rattle.rules.specs.Record.{silent, no_marks, group_in, slot_at, place_at, share_at, matrix_of, same_matrix, shares_kept, zero_slot, count_e, count_r}
 
 -- ---- one part of the record anew
 
@@ -46,7 +41,7 @@ with_heard x v = record { setup = x.setup; slots = x.slots; heard = v; progress 
 abbrev pub with_progress : Record → Progress → Record
 with_progress x v = record { setup = x.setup; slots = x.slots; heard = x.heard; progress = v; shares = x.shares; recovered = x.recovered }
 
-abbrev pub with_shares : Record → List Keep → Keep → Record
+abbrev pub with_shares : Record → List (Option Pair) → Option Pair → Record
 with_shares x v w = record { setup = x.setup; slots = x.slots; heard = x.heard; progress = x.progress; shares = v; recovered = w }
 
 abbrev pub mark : Marks → ℕ → Marks
@@ -72,11 +67,11 @@ unfoldable pub points : List Place → List (Said Four)
 points places = gather 10 (λ m. held_at m (get_or places m silent).point)
 
 -- the recovery shares kept, lowest box first
-abbrev pub kept_at : ℕ → Kept → List (Said Pair)
-kept_at m Absent = []
-kept_at m (There s) = record { box = m + 1; says = s } ∷ []
+abbrev pub kept_at : ℕ → Option Pair → List (Said Pair)
+kept_at m None = []
+kept_at m (Some s) = record { box = m + 1; says = s } ∷ []
 
-unfoldable pub share_points : List Keep → List (Said Pair)
+unfoldable pub share_points : List (Option Pair) → List (Said Pair)
 share_points shares = gather 10 (λ m. kept_at m (share_at shares m))
 
 -- the value at x of the polynomial through one number of each point
@@ -125,16 +120,13 @@ free_slot x = first_from 20 0 (λ s. not (slot_at x s).used)
 unfoldable pub slot_for : Record → List (List Element) → ℕ
 slot_for x C = pick (ltb (own_slot x C) 20) (own_slot x C) (free_slot x)
 
-abbrev pub row_of : List Element → Row
-row_of l = record { at = l }
-
 -- the slot as it stands if it is in use, else a new one for this matrix
 unfoldable pub opened : List (List Element) → Slot → Slot
 opened C slot =
     pick slot.used slot
     (record {
       used = true;
-      rows = map row_of C;
+      rows = C;
       places = zero_slot.places;
       echoed = zero_slot.echoed;
       readied = zero_slot.readied;
@@ -176,7 +168,7 @@ keeping slot s =
       places = slot.places;
       echoed = slot.echoed;
       readied = slot.readied;
-      pair = record { kept = There s };
+      pair = Some s;
     }
 
 -- ---- the steps
@@ -187,13 +179,13 @@ pub record Step : Type 0 where
   pub sent : Sent
   pub bytes : List ℕ
   pub completed : Bool
-  pub recovered : Kept
+  pub recovered : Option Pair
 
 abbrev pub quiet : Record → Step
-quiet x = record { after = x; sent = Nothing; bytes = []; completed = false; recovered = Absent }
+quiet x = record { after = x; sent = Nothing; bytes = []; completed = false; recovered = None }
 
 abbrev pub sending : Record → Sent → List ℕ → Step
-sending x what bytes = record { after = x; sent = what; bytes = bytes; completed = false; recovered = Absent }
+sending x what bytes = record { after = x; sent = what; bytes = bytes; completed = false; recovered = None }
 
 -- "Send, checked: echo to each j with a(j), a'(j), b(j), b'(j)."
 unfoldable pub send_step : Record → List (List Element) → Polynomials → Step
@@ -214,9 +206,9 @@ abbrev pub lowest : Record → Slot → List (Said Four)
 lowest x slot = take x.setup.k (points slot.places)
 
 -- "complete with this C .. Only the first completion counts"
-abbrev pub first_completion : Completion → ℕ → Completion
-first_completion NotYet s = With s
-first_completion (With s') s = With s'
+abbrev pub first_completion : Option ℕ → ℕ → Option ℕ
+first_completion None s = Some s
+first_completion (Some s') s = Some s'
 
 unfoldable pub completing : Record → ℕ → Record
 completing x s =
@@ -229,7 +221,7 @@ completing x s =
 
 unfoldable pub completed : Record → ℕ → Step
 completed x s =
-    record { after = completing x s; sent = Nothing; bytes = []; completed = not (is_done x.progress.completion); recovered = Absent }
+    record { after = completing x s; sent = Nothing; bytes = []; completed = not (is_some x.progress.completion); recovered = None }
 
 -- "Echo, checked: its count e for this C goes up by one. If now e = E and r < k, interpolate and send ready."
 -- "Ready, checked: r for this C goes up by one. If now r = k and e < E, interpolate and send ready;
@@ -253,18 +245,18 @@ unfoldable pub point_step : Side → Record → ℕ → List (List Element) → 
 point_step b x m C f = point_at b x (slot_for x C) (taken b (opened C (slot_at x (slot_for x C))) m f)
 
 -- "Each checked recovery share from a new box is kept. At the k-th, give the pair interpolated at 0."
-abbrev pub sharing : Record → ℕ → Pair → List Keep
-sharing x m s = set x.shares m (record { kept = There s })
+abbrev pub sharing : Record → ℕ → Pair → List (Option Pair)
+sharing x m s = set x.shares m (Some s)
 
-unfoldable pub recovering : Record → List Keep → Step
+unfoldable pub recovering : Record → List (Option Pair) → Step
 recovering x shares =
     pick (eqb (shares_kept shares) x.setup.k)
     (record {
-      after = with_shares x shares (record { kept = There (recovered_from (group_in x).q (share_points shares)) });
+      after = with_shares x shares (Some (recovered_from (group_in x).q (share_points shares)));
       sent = Nothing;
       bytes = [];
       completed = false;
-      recovered = There (recovered_from (group_in x).q (share_points shares));
+      recovered = Some (recovered_from (group_in x).q (share_points shares));
     })
     (quiet (with_shares x shares x.recovered))
 
@@ -289,13 +281,13 @@ deal_step x secret coins =
     (polynomials_of (group_in x).q x.setup.k (f_of x.setup secret coins) (f'_of x.setup secret coins) j)))
 
 -- "Recovery command: send the share to each j."
-abbrev pub completed_share : Record → Completion → Kept
-completed_share x NotYet = Absent
-completed_share x (With s) = (slot_at x s).pair.kept
+abbrev pub completed_share : Record → Option ℕ → Option Pair
+completed_share x None = None
+completed_share x (Some s) = (slot_at x s).pair
 
-abbrev pub share_bytes : SetUp → Kept → List ℕ
-share_bytes u Absent = []
-share_bytes u (There s) = to_each u (λ j. recovery s)
+abbrev pub share_bytes : SetUp → Option Pair → List ℕ
+share_bytes u None = []
+share_bytes u (Some s) = to_each u (λ j. recovery s)
 
 unfoldable pub recover_step : Record → Step
 recover_step x =

@@ -2,16 +2,15 @@
 --
 -- In order: the parts of a record, zero by zero; what a set-up answers and leaves.
 -- Assumes nothing.
+use Rattle.rules.specs.declared.Pair.{Pair}
+use Rattle.rules.specs.declared.Element.{Element}
 use Rattle.std.specs.Prelude.{◌≡◌, refl, false, List, [], ◌∷◌, ℕ}
 use Rattle.rules.specs.declared.SetUp.{SetUp}
 use Rattle.rules.specs.declared.Point.TheVariants.{Silent}
 use Rattle.rules.specs.declared.Place.{Place}
-use Rattle.rules.specs.declared.Kept.TheVariants.{Absent}
-use Rattle.rules.specs.declared.Keep.{Keep}
-use Rattle.rules.specs.declared.Row.{Row}
+use Rattle.std.specs.Prelude.{Option, Some, None, is_some}
 use Rattle.rules.specs.declared.Marks.{Marks}
 use Rattle.rules.specs.declared.Slot.{Slot}
-use Rattle.rules.specs.declared.Completion.TheVariants.{NotYet}
 use Rattle.rules.specs.declared.Record.{Record}
 use Rattle.rules.specs.declared.Sent.TheVariants.{Nothing}
 use Rattle.rules.specs.declared.Outcome.{Outcome}
@@ -38,11 +37,11 @@ twenty a = four_of_lem a (four_of_lem a (four_of_lem a (four_of_lem a (four_of_l
 abbrev no_marks_lem : Marks
 no_marks_lem = record { at = ten false }
 
-abbrev no_pair_lem : Keep
-no_pair_lem = record { kept = Absent }
+abbrev no_pair_lem : Option Pair
+no_pair_lem = None
 
-abbrev zero_row : Row
-zero_row = record { at = eight (element 0) }
+abbrev zero_row : List Element
+zero_row = eight (element 0)
 
 abbrev is_silent_lem : Place
 is_silent_lem = record { point = Silent }
@@ -57,7 +56,7 @@ nothing_but u =
       setup = u;
       slots = twenty zeros;
       heard = four_of_lem no_marks_lem [];
-      progress = record { dealt = false; completion = NotYet; commanded = false };
+      progress = record { dealt = false; completion = None; commanded = false };
       shares = ten no_pair_lem;
       recovered = no_pair_lem;
     }

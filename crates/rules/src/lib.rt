@@ -124,29 +124,10 @@ pub enum Point {
     Held(Four),
 }
 
-// An array holds structs and no enums: so a sender's point stands in a place.
+// Document 01 names the form: a struct that holds the enum, and an array of those structs.
 #[derive(Clone, Copy)]
 pub struct Place {
     pub point: Point,
-}
-
-// A pair that is kept, or none.
-#[derive(Clone, Copy)]
-pub enum Kept {
-    Absent,
-    There(Pair),
-}
-
-// As a point in its place: so that an array can hold it.
-#[derive(Clone, Copy)]
-pub struct Keep {
-    pub kept: Kept,
-}
-
-// A row of a matrix; the first k entries are in use.
-#[derive(Clone, Copy)]
-pub struct Row {
-    pub at: [Element; 8],
 }
 
 // The two messages that carry a point, and count: an echo in e, a ready in r.
@@ -179,25 +160,18 @@ pub struct Marks {
 #[derive(Clone, Copy)]
 pub struct Slot {
     pub used: bool,
-    pub rows: [Row; 8],
+    pub rows: [[Element; 8]; 8],
     pub places: [Place; 10],
     pub echoed: Marks,
     pub readied: Marks,
-    pub pair: Keep,
+    pub pair: Option<Pair>,
 }
 
-// Not completed, or completed with the matrix of a slot.
-#[derive(Clone, Copy)]
-pub enum Completion {
-    NotYet,
-    With(usize),
-}
-
-// What the box has done: dealt, completed, been commanded to recover.
+// What the box has done: dealt, completed (with the matrix of which slot), been commanded to recover.
 #[derive(Clone, Copy)]
 pub struct Progress {
     pub dealt: bool,
-    pub completion: Completion,
+    pub completion: Option<usize>,
     pub commanded: bool,
 }
 
@@ -210,8 +184,8 @@ pub struct Record {
     pub heard: [Marks; 4],
     pub progress: Progress,
     // The recovery shares kept, for each box.
-    pub shares: [Keep; 10],
-    pub recovered: Keep,
+    pub shares: [Option<Pair>; 10],
+    pub recovered: Option<Pair>,
 }
 
 // ---- Answers

@@ -4,10 +4,8 @@ use Rattle.std.specs.Prelude.{List, ℕ}
 use Rattle.folds.specs.Tests.{pick}
 use Rattle.rules.specs.declared.Element.{Element}
 use Rattle.rules.specs.declared.Group.{Group}
-use Rattle.rules.specs.declared.Keep.{Keep}
-use Rattle.rules.specs.declared.Kept.{Kept}
-use Rattle.rules.specs.declared.Kept.TheVariants.{Absent}
+use Rattle.std.specs.Prelude.{Option, Some, None, is_some}
 use Rattle.rules.specs.Sheet.{verdict, is_verified}
 
-unfoldable pub verified_keep : Group → ℕ → List (List Element) → ℕ → Kept → Keep
-verified_keep G k C m kept = record { kept = pick (is_verified (verdict G k C m kept)) kept Absent }
+unfoldable pub verified_keep : Group → ℕ → List (List Element) → ℕ → Option Pair → Option Pair
+verified_keep G k C m kept = pick (is_verified (verdict G k C m kept)) kept None

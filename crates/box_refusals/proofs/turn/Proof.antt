@@ -1,4 +1,5 @@
 -- `turn` is the first of rows 4 to 7 that holds. Assumes nothing.
+use Rattle.std.specs.Prelude.{is_some}
 use mathlib.Core.Logic.{⊎_elim}
 use mathlib.Core.Path.{◌≡◌, sym, ◌∙◌}
 use mathlib.Core.Bool.{false, not}
@@ -8,7 +9,6 @@ use borrow.Author.Rules.{rules}
 use borrow.Author.Tests.{eq-eqb, ne_eqb}
 use Rattle.folds.specs.Tests.{◌and◌}
 use Rattle.rules.specs.Messages.{tag_in}
-use Rattle.rules.specs.Record.{is_there, is_done}
 use Rattle.rules.specs.Answers.{first_row, turn_rows}
 use Rattle.rules.proofs.Laws.Numbers.{is_box_lem}
 use Rattle.box_refusals.proofs.turn.Statement.{statement}
@@ -21,21 +21,21 @@ start1 c = c.before.before.before.before
 left-4 : (c : tie.Joined-else-tag-eq1) → let a = (start1 c).args in eqb (tag_in a.bytes.now) 1 and not (eqb a.sender a.x.setup.d) ≡ false
 left-4 c = ⊎_elim (λ w. rw (eq-eqb _ _ w.if-tag-eq1.true, eq-eqb _ _ w.if-sender-u.false)) (λ w. rw (ne_eqb _ _ w.if-tag-eq1.false)) c.else-tag-eq1.branch-raw
 
-abbrev start3 : tie.Joined-is_done → tie.Start
+abbrev start3 : tie.Joined-is_some → tie.Start
 start3 c = start1 c.before.before.before
 
 -- the box has completed and been commanded
-recovering : (c : tie.Joined-is_done) → let p = (start3 c).args.x.progress in c.if-is_done.recovering ≡ is_done p.completion and p.commanded
+recovering : (c : tie.Joined-is_some) → let p = (start3 c).args.x.progress in c.if-is_some.recovering ≡ is_some p.completion and p.commanded
 recovering c =
-    let ended = c.before.is_done.ensures in
-    ⊎_elim (λ w. rw (sym ended ∙ w.if-is_done.true) w.recovering-is) (λ w. rw (sym ended ∙ w.if-is_done.false) (w.recovering-is ∙ w.if-is_done.false)) c.if-is_done.branch-raw
+    let ended = c.before.is_some.ensures in
+    ⊎_elim (λ w. rw (sym ended ∙ w.if-is_some.true) w.recovering-is) (λ w. rw (sym ended ∙ w.if-is_some.false) (w.recovering-is ∙ w.if-is_some.false)) c.if-is_some.branch-raw
 
 abbrev start4 : tie.Joined-else-tag-eq4 → tie.Start
 start4 c = start3 c.before
 
 left-5 : (c : tie.Joined-else-tag-eq4)
     → let a = (start4 c).args in
-    eqb (tag_in a.bytes.now) 4 and not (is_done a.x.progress.completion and a.x.progress.commanded) ≡ false
+    eqb (tag_in a.bytes.now) 4 and not (is_some a.x.progress.completion and a.x.progress.commanded) ≡ false
 left-5 c =
     ⊎_elim (λ w. rw (eq-eqb _ _ w.if-tag-eq4.true, sym (recovering c.before) ∙ w.if-not-recovering.false)) (λ w. rw (ne_eqb _ _ w.if-tag-eq4.false))
     c.else-tag-eq4.branch-raw
@@ -43,9 +43,9 @@ left-5 c =
 abbrev start6 : tie.Joined-else-tag-eq4-2 → tie.Start
 start6 c = start4 c.before.before
 
-left-6 : (c : tie.Joined-else-tag-eq4-2) → let a = (start6 c).args in eqb (tag_in a.bytes.now) 4 and is_there a.x.recovered.kept ≡ false
+left-6 : (c : tie.Joined-else-tag-eq4-2) → let a = (start6 c).args in eqb (tag_in a.bytes.now) 4 and is_some a.x.recovered ≡ false
 left-6 c =
-    ⊎_elim (λ w. rw (eq-eqb _ _ w.if-tag-eq4-2.true, sym w.is_there.ensures ∙ w.if-is_there.false)) (λ w. rw (ne_eqb _ _ w.if-tag-eq4-2.false)) c.else-tag-eq4-2.branch-raw
+    ⊎_elim (λ w. rw (eq-eqb _ _ w.if-tag-eq4-2.true, sym w.is_some.ensures ∙ w.if-is_some.false)) (λ w. rw (ne_eqb _ _ w.if-tag-eq4-2.false)) c.else-tag-eq4-2.branch-raw
 
 row_4 : tie.Need-returns-then-sender-u
 unfolding first_row turn_rows
@@ -58,7 +58,7 @@ row_5 c =
     rw
     (left-4 fifth.before.before.before.before, eq-eqb _ _ fifth.if-tag-eq4.true, sym (recovering fifth.before) ∙ c.if-not-recovering.true)
 
-row-6 : tie.Need-returns-then-is_there
+row-6 : tie.Need-returns-then-is_some
 unfolding first_row turn_rows
 row-6 c =
     let fifth = c.before.before.before.before in
@@ -66,7 +66,7 @@ row-6 c =
       left-4 fifth.before.before.before.before,
       left-5 fifth,
       eq-eqb _ _ c.before.before.if-tag-eq4-2.true,
-      sym c.before.is_there.ensures ∙ c.if-is_there.true,
+      sym c.before.is_some.ensures ∙ c.if-is_some.true,
     )
 
 row-7 : tie.Need-returns-then-is_heard

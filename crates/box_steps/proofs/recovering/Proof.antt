@@ -9,10 +9,8 @@ use borrow.Author.Rules.{rules}
 use borrow.Author.Tests.{eq-eqb, ne_eqb}
 use Rattle.folds.specs.Tests.{pick}
 use Rattle.folds.specs.Runs.{length-gather_count}
-use Rattle.rules.specs.declared.Keep.{Keep}
-use Rattle.rules.specs.declared.Kept.{Kept}
-use Rattle.rules.specs.declared.Kept.TheVariants.{Absent, There}
-use Rattle.rules.specs.Record.{share_at, is_there, shares_kept}
+use Rattle.std.specs.Prelude.{Option, Some, None, is_some}
+use Rattle.rules.specs.Record.{share_at, shares_kept}
 use Rattle.rules.specs.Steps.{kept_at, share_points, recovered_from, recovering}
 use Rattle.box_step.specs.Told.{quietly}
 use Rattle.box_step.specs.Takes.{made}
@@ -21,17 +19,17 @@ use Rattle.box_steps.proofs.recovering.Statement.{statement}
 use Rattle.box_steps.proofs.recovering.Tie as tie
 
 -- there are as many as are kept
-length-share_points : (keeps : List Keep) → length (share_points keeps) ≡ shares_kept keeps
+length-share_points : (keeps : List (Option Pair)) → length (share_points keeps) ≡ shares_kept keeps
 unfolding share_points shares_kept
 length-share_points keeps =
-    length-gather_count (λ m. kept_at m (share_at keeps m)) (λ m. is_there (share_at keeps m)) (λ m. one m (share_at keeps m)) 10
+    length-gather_count (λ m. kept_at m (share_at keeps m)) (λ m. is_some (share_at keeps m)) (λ m. one m (share_at keeps m)) 10
   where
-    one : (m : ℕ) (kept : Kept) → length (kept_at m kept) ≡ pick (is_there kept) 1 0
-    one m Absent = refl
-    one m (There s) = refl
+    one : (m : ℕ) (kept : Option Pair) → length (kept_at m kept) ≡ pick (is_some kept) 1 0
+    one m None = refl
+    one m (Some s) = refl
 
 -- where k are kept, the first k are all
-all-taken : (keeps : List Keep) (k : ℕ) → shares_kept keeps ≡ k → take k (share_points keeps) ≡ share_points keeps
+all-taken : (keeps : List (Option Pair)) (k : ℕ) → shares_kept keeps ≡ k → take k (share_points keeps) ≡ share_points keeps
 all-taken keeps k e = take_all k (share_points keeps) (omega (arith, length-share_points keeps))
 
 recovers : tie.Need-returns-then-count_shares-u

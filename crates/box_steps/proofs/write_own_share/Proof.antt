@@ -12,30 +12,30 @@ use Rattle.box_steps.proofs.write_own_share.Tie as tie
 
 -- the completed slot is one of the twenty
 within : tie.Need-bounds-x-s
-within c = ((sound_facts c.args.x c.requires.called.is_sound).progress.completion _ c.in-With.is).within
+within c = ((sound_facts c.args.x c.requires.called.is_sound).progress.completion _ c.in-Some.is).within
 
-not_yet : tie.Need-returns-in-NotYet
+not_yet : tie.Need-returns-in-None
 unfolding written
 not_yet c =
     let a = c.args in
-    let none = ap (λ d. share_bytes a.x.setup (completed_share a.x d)) c.in-NotYet.is in
+    let none = ap (λ d. share_bytes a.x.setup (completed_share a.x d)) c.in-None.is in
     record { counted = ap length (sym none); front = ap (λ b. written b a.out.now) (sym none) }
 
-absent : tie.Need-returns-in-Absent
+absent : tie.Need-returns-in-None
 unfolding written
 absent c =
     let a = c.args in
     let none =
-    ap (λ d. share_bytes a.x.setup (completed_share a.x d)) c.in-With.is
-    ∙ ap (share_bytes a.x.setup) c.in-Absent.is in
+    ap (λ d. share_bytes a.x.setup (completed_share a.x d)) c.in-Some.is
+    ∙ ap (share_bytes a.x.setup) c.in-None.is in
     record { counted = ap length (sym none); front = ap (λ b. written b a.out.now) (sym none) }
 
-there : tie.Need-returns-in-There
+there : tie.Need-returns-in-Some
 there c =
     let a = c.args in
     let bytes =
-    ap (λ d. share_bytes a.x.setup (completed_share a.x d)) c.in-With.is
-    ∙ ap (share_bytes a.x.setup) c.in-There.is in
+    ap (λ d. share_bytes a.x.setup (completed_share a.x d)) c.in-Some.is
+    ∙ ap (share_bytes a.x.setup) c.in-Some.is in
     rw (sym bytes) at c.write_shares.ensures
 
 pub write_own_share_spec : {M : Type 1} → statement M

@@ -2,6 +2,7 @@
 --
 -- In order: what it needs; that it is then accepted.
 -- Assumes nothing.
+use Rattle.std.specs.Prelude.{is_some}
 use Rattle.std.specs.Prelude.{◌≡◌, refl, true, false, not, ℕ, ◌-◌, ◌≤◌, eqb, length, replicate}
 use Rattle.std.proofs.Common.{sym, ap, ◌∙◌, arith, eqb-true, eq-eqb, le-ltb, leb-true}
 use Rattle.std.proofs.lemmas.List.{length-replicate}
@@ -10,7 +11,7 @@ use Rattle.rules.specs.declared.Record.{Record}
 use Rattle.rules.specs.Numbers.{is_box}
 use Rattle.rules.specs.Messages.{Message, tag_of, framed, bytes_of, has_matrix}
 use Rattle.rules.specs.Dealing.{matrix_passes}
-use Rattle.rules.specs.Record.{group_in, heard_for, is_there, is_done, sound}
+use Rattle.rules.specs.Record.{group_in, heard_for, sound}
 use Rattle.rules.specs.Answers.{exponents_keep, checks, deliver_rows, call_rows, form_rows, turn_rows, hearing_rows, early_rows}
 use Rattle.rules.proofs.Laws.Table.{none}
 use Rattle.rules.proofs.Laws.DemandOne.{deliver_number}
@@ -23,8 +24,8 @@ use Rattle.demands.specs.Terms.Histories.{gets, doing}
 pub record Welcome (x : Record) (sender : ℕ) (m : Message) : Type 0 where
   pub fits : Fits x.setup m
   pub dealer : tag_of m ≡ 1 → sender ≡ x.setup.d
-  pub commanded : tag_of m ≡ 4 → is_done x.progress.completion and x.progress.commanded ≡ true
-  pub unrecovered : tag_of m ≡ 4 → is_there x.recovered.kept ≡ false
+  pub commanded : tag_of m ≡ 4 → is_some x.progress.completion and x.progress.commanded ≡ true
+  pub unrecovered : tag_of m ≡ 4 → is_some x.recovered ≡ false
   pub unheard : heard_for x (tag_of m) (sender - 1) ≡ false
   pub matrix : tag_of m ≤ 3 → matrix_passes (group_in x) x.setup.k (matrix_part m) ≡ true
   pub exponents : exponents_keep x.setup m ≡ true

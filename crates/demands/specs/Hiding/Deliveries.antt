@@ -10,8 +10,7 @@ use Rattle.std.proofs.Math.Logic.{⊎_elim}
 use Rattle.std.proofs.Math.Dec.{eqb}
 use Rattle.std.proofs.lemmas.Bool.{not-false}
 use Rattle.folds.specs.Tests.{◌and◌, pick, and_right, and_rest, true≢false}
-use Rattle.rules.specs.declared.Completion.{Completion}
-use Rattle.rules.specs.declared.Completion.TheVariants.{NotYet, With}
+use Rattle.std.specs.Prelude.{Option, Some, None, is_some}
 use Rattle.rules.specs.declared.Element.{Element}
 use Rattle.rules.specs.declared.Pair.{Pair}
 use Rattle.rules.specs.declared.Record.{Record}
@@ -20,7 +19,7 @@ use Rattle.rules.specs.declared.Slot.{Slot}
 use Rattle.rules.specs.Numbers.{is_box}
 use Rattle.rules.specs.Messages.{Message, send, echo, ready, recovery, tag_in, has_matrix, message_in, matrix_in, polynomials_in, four_in, whole_length, malformed}
 use Rattle.rules.specs.Dealing.{matrix_passes, share_check}
-use Rattle.rules.specs.Record.{group_in, slot_at, heard_for, is_done, is_there, matrix_of, sound}
+use Rattle.rules.specs.Record.{group_in, slot_at, heard_for, matrix_of, sound}
 use Rattle.rules.specs.Steps.{heard, own_slot, free_slot, slot_for, opened, message_step, point_step, taken, ready_due}
 use Rattle.rules.specs.Answers.{first_of, exponents_keep, share_checks, checks, deliver_rows, refusal_heard, deliver, form_rows, turn_rows, hearing_rows, Refusal, first_row, early_rows, call_rows}
 use Rattle.rules.proofs.Laws.Numbers.{is_box_lem}
@@ -58,9 +57,9 @@ module _ (t : Twice) (h : Given t) (i : ℕ) (x : Record) (own_setup : x.setup �
   abbrev x' : Record
   x' = moved_record t i x
 
-  share_checks_lem : (c : Completion) (m : ℕ) (s : Pair) → share_checks x' c m s ≡ share_checks x c m s
-  share_checks_lem NotYet m s = refl
-  share_checks_lem (With r) m s =
+  share_checks_lem : (c : Option ℕ) (m : ℕ) (s : Pair) → share_checks x' c m s ≡ share_checks x c m s
+  share_checks_lem None m s = refl
+  share_checks_lem (Some r) m s =
       ap (λ (C : List (List Element)). share_check (group_in x) x.setup.k C m s)
       (ap matrix_of (slot_moved t i x r) ∙ matrix_moved t i (slot_at x r))
 
@@ -117,8 +116,8 @@ module _ (t : Twice) (h : Given t) (i : ℕ) (x : Record) (own_setup : x.setup �
         row_alike _ _ _ _ refl refl form_same (λ z2.
         row_alike _ _ _ _ refl refl (rw own_setup (sym a.session)) (λ z3.
         row_alike _ _ _ _ refl refl (ap (λ v. eqb v 1 and not (eqb from x.setup.d)) tag) (λ z4.
-        row_alike _ _ _ _ refl refl (ap (λ v. eqb v 4 and not (is_done x.progress.completion and x.progress.commanded)) tag) (λ z5.
-        row_alike _ _ _ _ refl refl (ap (λ v. eqb v 4 and is_there x.recovered.kept) tag) (λ z6.
+        row_alike _ _ _ _ refl refl (ap (λ v. eqb v 4 and not (is_some x.progress.completion and x.progress.commanded)) tag) (λ z5.
+        row_alike _ _ _ _ refl refl (ap (λ v. eqb v 4 and is_some x.recovered) tag) (λ z6.
         row_alike _ _ _ _ refl refl (ap (λ v. heard_for x v (from - 1)) tag) (λ z7.
         row_alike _ _ _ _ refl marks (ap₂ (λ v C. has_matrix v and not (matrix_passes (group_in x) x.setup.k C)) tag matrix_same) (λ z8.
         row_alike _ _ _ _ refl marks (ap not exponents_same) (λ z9.
@@ -161,7 +160,7 @@ module _ (t : Twice) (h : Given t) (i : ℕ) (x : Record) (own_setup : x.setup �
       -- no recovery share is taken
       no_recovery : tag_in bytes ≡ 4 → ⊥
       no_recovery e =
-          true≢false (sym (and_right (is_done x.progress.completion) _ (c.hearing.commanded e)) ∙ uncommanded)
+          true≢false (sym (and_right (is_some x.progress.completion) _ (c.hearing.commanded e)) ∙ uncommanded)
 
       takes : Takes (message_in x.setup bytes)
       unfolding Takes

@@ -12,8 +12,7 @@ use Rattle.folds.specs.Runs.{gather-same, map-gather, map-take}
 use Rattle.rules.specs.declared.Element.{Element}
 use Rattle.rules.specs.declared.Exponent.{Exponent}
 use Rattle.rules.specs.declared.Four.{Four}
-use Rattle.rules.specs.declared.Kept.{Kept}
-use Rattle.rules.specs.declared.Kept.TheVariants.{Absent, There}
+use Rattle.std.specs.Prelude.{Option, Some, None, is_some}
 use Rattle.rules.specs.declared.Pair.{Pair}
 use Rattle.rules.specs.declared.Place.{Place}
 use Rattle.rules.specs.declared.Point.{Point}
@@ -108,9 +107,9 @@ module _ (t : Twice) where
   moved_point w Silent = Silent
   moved_point w (Held f) = Held (moved_four w f)
 
-  abbrev pub moved_kept : ℕ → Kept → Kept
-  moved_kept w Absent = Absent
-  moved_kept w (There p) = There (moved_pair w p)
+  abbrev pub moved_kept : ℕ → Option Pair → Option Pair
+  moved_kept w None = None
+  moved_kept w (Some p) = Some (moved_pair w p)
 
   -- place m, of box m + 1
   abbrev pub moved_place : ℕ → ℕ → Place → Place
@@ -128,7 +127,7 @@ module _ (t : Twice) where
         places = map_from (moved_place i) 0 slot.places;
         echoed = slot.echoed;
         readied = slot.readied;
-        pair = record { kept = moved_kept (zed i * zed 0) slot.pair.kept };
+        pair = moved_kept (zed i * zed 0) slot.pair;
       }
 
   abbrev pub moved_record : ℕ → Record → Record

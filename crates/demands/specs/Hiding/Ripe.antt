@@ -2,6 +2,7 @@
 --
 -- In order: calls that keep to this; whose a held point is; a slot whose points are the set's; after an accepted message.
 -- Assumes nothing.
+use Rattle.std.specs.Prelude.{is_some}
 use Rattle.std.specs.Prelude.{◌≡◌, false, ◌⊎◌, ℕ, ◌+◌, ◌-◌, ◌<◌, ◌≤◌, eqb, replicate, length}
 use Rattle.std.proofs.Common.{sym, ◌∙◌, arith}
 use Rattle.std.proofs.Math.Path.{ap, subst}
@@ -20,7 +21,7 @@ use Rattle.rules.specs.declared.SetUp.{SetUp}
 use Rattle.rules.specs.declared.Slot.{Slot}
 use Rattle.rules.specs.Numbers.{is_box}
 use Rattle.rules.specs.Messages.{tag_in, matrix_in}
-use Rattle.rules.specs.Record.{slot_at, is_held, held, matrix_of, same_matrix, is_there}
+use Rattle.rules.specs.Record.{slot_at, is_held, held, matrix_of, same_matrix}
 use Rattle.rules.specs.Steps.{slot_for, opened, keeping, taken}
 use Rattle.rules.specs.Answers.{set_up, first_of, accepted, deliver_rows}
 use Rattle.rules.proofs.Laws.Numbers.{box_is}
@@ -133,7 +134,7 @@ module _ (t : Twice) (h : Given t) (i : ℕ) (box-i : is_box (numbers t) i ≡ t
   k = (numbers t).k
 
   -- a slot with a pair: it holds k points, too many for the set alone
-  ripe_next : (s : ℕ) → s < 20 → is_there (slot_at (after me now) s).pair.kept ≡ true → Ripe t (slot_at (after me now) s)
+  ripe_next : (s : ℕ) → s < 20 → is_some (slot_at (after me now) s).pair ≡ true → Ripe t (slot_at (after me now) s)
   ripe_next s l there = (
     points_differ (numbers t) slot _ facts.contents.above (λ m f lm e. tt) many,
     ⊎_elim (λ w. w) (λ w. absurd (too_few w)) (decide (same_matrix k (matrix_of slot) (dealt t))),
@@ -182,7 +183,7 @@ module _ (t : Twice) (h : Given t) (i : ℕ) (box-i : is_box (numbers t) i ≡ t
     unfolding after accepted keeping matrix_of
     sent b C f out found first =
         let slot = ap (λ (o : Outcome). slot_at o.next (slot_for x C)) out ∙ slot_sent b x g (from - 1) C f found first in
-        subst (Ripe t) slot (ripe_next (slot_for x C) found.within (ap (λ (v : Slot). is_there v.pair.kept) slot))
+        subst (Ripe t) slot (ripe_next (slot_for x C) found.within (ap (λ (v : Slot). is_some v.pair) slot))
 
     pub ripe_if_sent : RipeIfSent t x from bytes
     ripe_if_sent ByEcho e =

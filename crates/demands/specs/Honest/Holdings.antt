@@ -14,7 +14,7 @@ use Rattle.folds.specs.Tests.{and_left, and_right, or_cases, pick-either, true�
 use Rattle.folds.specs.Below.{any_below_here, any_below_some}
 use Rattle.rules.specs.declared.Element.{Element}
 use Rattle.rules.specs.declared.Four.{Four}
-use Rattle.rules.specs.declared.Kept.TheVariants.{There}
+use Rattle.std.specs.Prelude.{Option, Some, None, is_some}
 use Rattle.rules.specs.declared.Pair.{Pair}
 use Rattle.rules.specs.declared.Point.{Point}
 use Rattle.rules.specs.declared.Point.TheVariants.{Silent, Held}
@@ -26,7 +26,7 @@ use Rattle.rules.specs.declared.Slot.{Slot}
 use Rattle.rules.specs.Numbers.{is_box}
 use Rattle.rules.specs.Messages.{tag_in, matrix_in, four_in, message_in}
 use Rattle.rules.specs.Dealing.{from_coins, f_of, f'_of, coins_keep}
-use Rattle.rules.specs.Record.{slot_at, place_at, is_held, is_there, held, matrix_of, same_matrix}
+use Rattle.rules.specs.Record.{slot_at, place_at, is_held, held, matrix_of, same_matrix}
 use Rattle.rules.specs.Steps.{points, pair_from, ready_four}
 use Rattle.rules.specs.Answers.{set_up}
 use Rattle.rules.proofs.Laws.Facts.{SlotFacts, ear}
@@ -166,7 +166,7 @@ module _ (u : SetUp) (secret : ℕ) (coins : List ℕ) (h : Deal u secret coins)
   coins_own = h.coins_keep_lem
 
   -- the points of a slot with a pair give what this box says in a ready, and its share
-  slot_gives : (cs : List Call) → LifeDealt u secret coins i cs → (D : List (List Element)) → is_there (slot_of (after me cs) D).pair.kept ≡ true
+  slot_gives : (cs : List Call) → LifeDealt u secret coins i cs → (D : List (List Element)) → is_some (slot_of (after me cs) D).pair ≡ true
       → ((j : ℕ) → ready_four (order u) (take u.k (points (slot_of (after me cs) D).places)) j ≡ dealt_point u secret coins i j)
       × (pair_from (order u) (take u.k (points (slot_of (after me cs) D).places)) ≡ dealt_share u secret coins i)
   unfolding f_of f'_of from_coins
@@ -175,7 +175,7 @@ module _ (u : SetUp) (secret : ℕ) (coins : List ℕ) (h : Deal u secret coins)
       (said_differ me is_taken D (λ m f. f ≡ dealt_point u secret coins m i) cs (λ m f e. (said_dealt cs dealt m D f e).1) there)
 
   module _ (cs : List Call) (dealt : LifeDealt u secret coins i cs) (s : ℕ) (l : s < 20)
-      (there : is_there (slot_at (after (own u i) cs) s).pair.kept ≡ true) where
+      (there : is_some (slot_at (after (own u i) cs) s).pair ≡ true) where
     pub used_then : (slot_at (after (own u i) cs) s).used ≡ true
     used_then =
         let low = (size u (sound u secret coins h)).low in
@@ -188,10 +188,10 @@ module _ (u : SetUp) (secret : ℕ) (coins : List ℕ) (h : Deal u secret coins)
         → ready_four (order u) (take u.k (points (slot_at (after (own u i) cs) s).places)) j ≡ dealt_point u secret coins i j
     ready_dealt j =
         ap (λ (w : Slot). ready_four (order u) (take u.k (points w.places)) j) (sym here)
-        ∙ (slot_gives cs dealt _ (ap (λ (w : Slot). is_there w.pair.kept) here ∙ there)).0 j
+        ∙ (slot_gives cs dealt _ (ap (λ (w : Slot). is_some w.pair) here ∙ there)).0 j
 
-    pub pair_dealt : (p : Pair) → (slot_at (after (own u i) cs) s).pair.kept ≡ There p → p ≡ dealt_share u secret coins i
+    pub pair_dealt : (p : Pair) → (slot_at (after (own u i) cs) s).pair ≡ Some p → p ≡ dealt_share u secret coins i
     pair_dealt p e =
         pair_holds me is_taken (matrix_of (slot_at (after me cs) s)) (λ v. v ≡ dealt_share u secret coins i) cs
         (λ now q kept passes. (slot_gives now (life_past u secret coins i now cs q dealt) _ kept).1) p
-        (ap (λ (w : Slot). w.pair.kept) here ∙ e)
+        (ap (λ (w : Slot). w.pair) here ∙ e)

@@ -8,8 +8,7 @@ use Rattle.std.specs.Prelude.{true, ℕ, ◌+◌, ◌*◌, ◌-◌, ◌<◌, eqb
 use mathlib.Core.List.{List, [], ◌∷◌}
 use borrow.Author.Tests.{eqb-true}
 use Rattle.folds.specs.Tests.{and_left, and_right, pick-either}
-use Rattle.rules.specs.declared.Kept.{Kept}
-use Rattle.rules.specs.declared.Kept.TheVariants.{There}
+use Rattle.std.specs.Prelude.{Option, Some, None, is_some}
 use Rattle.rules.specs.declared.Pair.{Pair}
 use Rattle.rules.specs.declared.Record.{Record}
 use Rattle.rules.specs.declared.SetUp.{SetUp}
@@ -46,15 +45,15 @@ module _ (u : SetUp) (secret : ℕ) (coins : List ℕ) (h : Deal u secret coins)
       let is : pair_in bytes ≡ dealt_share u secret coins from = rw (is_recovery_lem u bytes it) at (dealt (eqb-true _ 0 (and_left _ _ e))) in
       is ∙ ap (dealt_share u secret coins) (eqb-true from m (and_left _ _ e1))
 
-  said_share : (cs : List Call) → LifeDealt u secret coins i cs → (m : ℕ) (p : Pair) → share_said me cs m ≡ There p
+  said_share : (cs : List Call) → LifeDealt u secret coins i cs → (m : ℕ) (p : Pair) → share_said me cs m ≡ Some p
       → p ≡ dealt_share u secret coins m
   unfolding share_said share_now
   said_share [] dealt m p e = let z : ◌≡◌ {A = ℕ} 0 1 = cc in absurd (omega arith)
   said_share (deals s c lent ∷ cs) dealt m p e = said_share cs (life_before u secret coins i _ cs dealt) m p e
   said_share (commanded lent ∷ cs) dealt m p e = said_share cs (life_before u secret coins i _ cs dealt) m p e
   said_share (gets from bytes lent ∷ cs) dealt m p e =
-      pick-either (λ (v : Kept). v ≡ There p → p ≡ dealt_share u secret coins m) (share_now (after me cs) (gets from bytes lent) m)
-      (There (pair_in bytes)) (share_said me cs m)
+      pick-either (λ (v : Option Pair). v ≡ Some p → p ≡ dealt_share u secret coins m) (share_now (after me cs) (gets from bytes lent) m)
+      (Some (pair_in bytes)) (share_said me cs m)
       (λ now q.
       let same : pair_in bytes ≡ p = cc in
       sym same ∙ share_now_lem (after me cs) m from bytes lent (dealt (gets from bytes lent) cs (past_self _)) now)
@@ -62,7 +61,7 @@ module _ (u : SetUp) (secret : ℕ) (coins : List ℕ) (h : Deal u secret coins)
       e
 
   pub share_dealt : (cs : List Call) → LifeDealt u secret coins i cs → (m : ℕ) (p : Pair) → m < 10
-      → share_at (after (own u i) cs).shares m ≡ There p → p ≡ dealt_share u secret coins (m + 1)
+      → share_at (after (own u i) cs).shares m ≡ Some p → p ≡ dealt_share u secret coins (m + 1)
   share_dealt cs dealt m p l e =
       said_share cs dealt (m + 1) p (sym (shares_say me (is_taken u secret coins h i box-i) cs m l) ∙ e)
 
@@ -72,7 +71,7 @@ module _ (u : SetUp) (secret : ℕ) (coins : List ℕ) (h : Deal u secret coins)
   abbrev Secret : Pair → Type 0
   Secret p = (p.first.0 ≡ secret) × (p.second.0 ≡ get_or coins (u.k * u.k - 1) 0)
 
-  pub recovered_dealt : (cs : List Call) → LifeDealt u secret coins i cs → (p : Pair) → (after (own u i) cs).recovered.kept ≡ There p → Secret p
+  pub recovered_dealt : (cs : List Call) → LifeDealt u secret coins i cs → (p : Pair) → (after (own u i) cs).recovered ≡ Some p → Secret p
   unfolding f_of f'_of from_coins
   recovered_dealt cs dealt p e =
       let up = is_taken u secret coins h i box-i in

@@ -8,11 +8,8 @@ use Rattle.std.proofs.Common.{sym, ◌∙◌, subst, arith, eq-eqb}
 use mathlib.Core.List.{List, [], ◌∷◌}
 use Rattle.folds.specs.Tests.{pick-either, true≢false}
 use Rattle.folds.specs.Runs.{Every, every_nil, every_cons, every_append}
-use Rattle.rules.specs.declared.Completion.{Completion}
-use Rattle.rules.specs.declared.Completion.TheVariants.{NotYet, With}
+use Rattle.std.specs.Prelude.{Option, Some, None, is_some}
 use Rattle.rules.specs.declared.Element.{Element}
-use Rattle.rules.specs.declared.Kept.{Kept}
-use Rattle.rules.specs.declared.Kept.TheVariants.{Absent, There}
 use Rattle.rules.specs.declared.Pair.{Pair}
 use Rattle.rules.specs.declared.Polynomials.{Polynomials}
 use Rattle.rules.specs.declared.Record.{Record}
@@ -23,7 +20,7 @@ use Rattle.rules.specs.declared.Side.TheVariants.{ByEcho, ByReady}
 use Rattle.rules.specs.Numbers.{is_box}
 use Rattle.rules.specs.Messages.{send, echo, ready, recovery, matrix_in, polynomials_in, to_each}
 use Rattle.rules.specs.Dealing.{from_coins, f_of, f'_of}
-use Rattle.rules.specs.Record.{slot_at, is_there}
+use Rattle.rules.specs.Record.{slot_at}
 use Rattle.rules.specs.Steps.{echo_four, completed_share, share_bytes}
 use Rattle.rules.proofs.Laws.RoundTrip.{is_send_lem}
 use Rattle.demands.specs.Terms.Honest.{Deal}
@@ -56,15 +53,15 @@ module _ (u : SetUp) (secret : ℕ) (coins : List ℕ) (h : Deal u secret coins)
     )
 
     -- a recovery share is the completed slot's pair
-    share_sent : (d : Completion) → x.progress.completion ≡ d → run ≡ share_bytes me (completed_share x d) → SentDealt u secret coins i run
-    share_sent NotYet q e = absurd (some e)
-    share_sent (With s) q e = pair_sent (slot_at x s).pair.kept refl e
+    share_sent : (d : Option ℕ) → x.progress.completion ≡ d → run ≡ share_bytes me (completed_share x d) → SentDealt u secret coins i run
+    share_sent None q e = absurd (some e)
+    share_sent (Some s) q e = pair_sent (slot_at x s).pair refl e
       where
-        pair_sent : (v : Kept) → (slot_at x s).pair.kept ≡ v → run ≡ share_bytes me v → SentDealt u secret coins i run
-        pair_sent Absent w e = absurd (some e)
-        pair_sent (There p) w e =
+        pair_sent : (v : Option Pair) → (slot_at x s).pair ≡ v → run ≡ share_bytes me v → SentDealt u secret coins i run
+        pair_sent None w e = absurd (some e)
+        pair_sent (Some p) w e =
             let is = pair_dealt u secret coins h i box-i cs (life_before u secret coins i c cs dealt) s
-            (completed_kept me (is_taken u secret coins h i box-i) cs s q).0 (ap is_there w) p w in
+            (completed_kept me (is_taken u secret coins h i box-i) cs s q).0 (ap is_some w) p w in
             (a_share, e ∙ ap (λ (v : Pair). to_each me (λ j. recovery v)) is ∙ own_each u i _, λ z. absurd (omega arith))
 
     sends : (what : Sent) → Spoken me x c what run → SentDealt u secret coins i run

@@ -6,15 +6,14 @@ use Rattle.std.specs.Prelude.{◌≡◌, refl, true, List, ◌∷◌, ℕ, take}
 use Rattle.std.proofs.Common.{sym, ◌∙◌, subst}
 use Rattle.std.proofs.Math.Path.{ap}
 use Rattle.folds.specs.Tests.{true≢false}
-use Rattle.rules.specs.declared.Completion.{Completion}
-use Rattle.rules.specs.declared.Completion.TheVariants.{NotYet, With}
+use Rattle.std.specs.Prelude.{Option, Some, None, is_some}
 use Rattle.rules.specs.declared.Element.{Element}
 use Rattle.rules.specs.declared.Record.{Record}
 use Rattle.rules.specs.declared.Sent.{Sent}
 use Rattle.rules.specs.declared.Sent.TheVariants.{Nothing, Send, Echo, Ready, Recovery}
 use Rattle.rules.specs.declared.SetUp.{SetUp}
 use Rattle.rules.specs.Messages.{ready, matrix_in, to_each}
-use Rattle.rules.specs.Record.{slot_at, matrix_of, is_done}
+use Rattle.rules.specs.Record.{slot_at, matrix_of}
 use Rattle.rules.specs.Steps.{points, ready_four, completed_share, share_bytes}
 use Rattle.rules.specs.Answers.{Done, set_up}
 use Rattle.demands.specs.Terms.Histories.{Call, doing, after, wrote}
@@ -47,9 +46,9 @@ module _ (u : SetUp) (set_up_lem : (set_up u).answer.no ≡ 0) (cs : List Call) 
         ∙ ap (λ (r : ℕ). to_each u (λ j. ready C (ready_four (order u) (take u.k (points (slot_at y r).places)) j)))
         (sym (own_is y (good u set_up_lem (c ∷ cs)) C s has))
 
-  done_with : (v : Completion) → is_done v ≡ true → (s : ℕ) × (v ≡ With s)
-  done_with NotYet e = absurd (true≢false (sym e))
-  done_with (With s) e = (s, refl)
+  done_with : (v : Option ℕ) → is_some v ≡ true → (s : ℕ) × (v ≡ Some s)
+  done_with None e = absurd (true≢false (sym e))
+  done_with (Some s) e = (s, refl)
 
   by_kind : (what : Sent) → Spoken u x c what (wrote d) → Sends u cs c what (wrote d)
   unfolding after
@@ -66,7 +65,7 @@ module _ (u : SetUp) (set_up_lem : (set_up u).answer.no ≡ 0) (cs : List Call) 
         t.3,
         done.1,
         kept.1,
-        t.0 ∙ ap (λ (v : Completion). share_bytes u (completed_share x v)) done.1 ∙ ap (share_bytes u) kept.1,
+        t.0 ∙ ap (λ (v : Option ℕ). share_bytes u (completed_share x v)) done.1 ∙ ap (share_bytes u) kept.1,
       )
 
   pub every_byte : Sends u cs c d.outcome.answer.sent (wrote d)

@@ -9,17 +9,15 @@ use Rattle.std.proofs.Math.Bool.{not}
 use Rattle.std.proofs.lemmas.List.{length-replicate}
 use Rattle.folds.specs.Tests.{and_intro, or_none_lem}
 use Rattle.rules.specs.declared.Answer.{Answer}
-use Rattle.rules.specs.declared.Completion.{Completion}
-use Rattle.rules.specs.declared.Completion.TheVariants.{With}
+use Rattle.std.specs.Prelude.{Option, Some, None, is_some}
 use Rattle.rules.specs.declared.Pair.{Pair}
-use Rattle.rules.specs.declared.Kept.TheVariants.{There}
 use Rattle.rules.specs.declared.Record.{Record}
 use Rattle.rules.specs.declared.Sent.{Sent}
 use Rattle.rules.specs.declared.Sent.TheVariants.{Send, Recovery}
 use Rattle.rules.specs.declared.SetUp.{SetUp}
 use Rattle.rules.specs.Messages.{recovery, to_each}
 use Rattle.rules.specs.Dealing.{coins_keep}
-use Rattle.rules.specs.Record.{slot_at, is_done, sound}
+use Rattle.rules.specs.Record.{slot_at, sound}
 use Rattle.rules.specs.Steps.{Step, deal_step, recover_step, completed_share, share_bytes}
 use Rattle.rules.specs.Answers.{done, accepted, answered, first_of, call_rows, own_deal_rows, deal_rows, deal, own_recover_rows, recover_rows, recover, set_up}
 use Rattle.rules.proofs.Laws.Table.{none}
@@ -61,7 +59,7 @@ module _ (x : Record) (is_sound : sound x ≡ true) (lent : ℕ) (long : 2048 �
       (and_intro _ _ (ap (λ b. not (not b)) keep) refl))))
 
   -- a completed box's, if it has not been commanded
-  pub command_taken : is_done x.progress.completion ≡ true → x.progress.commanded ≡ false → first_of (recover_rows x size) ≡ 0
+  pub command_taken : is_some x.progress.completion ≡ true → x.progress.commanded ≡ false → first_of (recover_rows x size) ≡ 0
   unfolding recover answered recover_rows call_rows own_recover_rows none
   command_taken complete first =
       sym (outcome_number _ _ _)
@@ -98,13 +96,13 @@ module _ (u : SetUp) (set_up_lem : (set_up u).answer.no ≡ 0) (cs : List Call) 
       let sends = deal_sends x secret coins in
       writes _ (deal_step x secret coins) x (replicate lent 0) Send _ n sends.0 (sends.1 ∙ ap (λ (v : SetUp). sends_of v secret coins) own)
 
-  pub first_command : (s : ℕ) (p : Pair) → x.progress.completion ≡ With s → (slot_at x s).pair.kept ≡ There p
+  pub first_command : (s : ℕ) (p : Pair) → x.progress.completion ≡ Some s → (slot_at x s).pair ≡ Some p
       → how_many (λ (a : Answer). is_recovery a.sent) (answers u cs) ≡ 0
       → Writes (doing x (commanded lent)) Recovery (to_each u (λ j. recovery p))
   unfolding doing recover recover_step
   first_command s p done kept uncommanded =
-      let n = command_taken x all_sound lent long (ap is_done done) (commanded_counts u set_up_lem cs ∙ ap (ltb 0) uncommanded) in
+      let n = command_taken x all_sound lent long (ap is_some done) (commanded_counts u set_up_lem cs ∙ ap (ltb 0) uncommanded) in
       writes _ (recover_step x) x (replicate lent 0) Recovery _ n refl
-      (ap (λ (c : Completion). share_bytes x.setup (completed_share x c)) done
+      (ap (λ (c : Option ℕ). share_bytes x.setup (completed_share x c)) done
       ∙ ap (share_bytes x.setup) kept
       ∙ ap (λ (v : SetUp). to_each v (λ j. recovery p)) own)

@@ -9,10 +9,9 @@ use mathlib.Core.List.{List, [], ◌∷◌, ◌++◌}
 use Rattle.std.proofs.Math.Decide.{dec_lt}
 use Rattle.folds.specs.Tests.{◌and◌, or_right}
 use Rattle.folds.specs.Below.{count_below}
-use Rattle.rules.specs.declared.Completion.TheVariants.{With}
+use Rattle.std.specs.Prelude.{Option, Some, None, is_some}
 use Rattle.rules.specs.declared.Element.{Element}
 use Rattle.rules.specs.declared.Four.{Four}
-use Rattle.rules.specs.declared.Kept.TheVariants.{There}
 use Rattle.rules.specs.declared.Marks.{Marks}
 use Rattle.rules.specs.declared.Record.{Record}
 use Rattle.rules.specs.declared.SetUp.{SetUp}
@@ -20,7 +19,7 @@ use Rattle.rules.specs.declared.Side.{Side}
 use Rattle.rules.specs.declared.Side.TheVariants.{ByEcho, ByReady}
 use Rattle.rules.specs.declared.Slot.{Slot}
 use Rattle.rules.specs.Numbers.{echo_quorum}
-use Rattle.rules.specs.Record.{slot_at, marked, matrix_of, is_done, is_there, count_e, count_r, zero_slot}
+use Rattle.rules.specs.Record.{slot_at, marked, matrix_of, count_e, count_r, zero_slot}
 use Rattle.rules.specs.Steps.{taken, ready_due, completion_due}
 use Rattle.rules.specs.Answers.{set_up}
 use Rattle.rules.proofs.Laws.Kept.TakenSlot.{count_is, count_up}
@@ -52,7 +51,7 @@ module _ (u : SetUp) (set_up_lem : (set_up u).answer.no ≡ 0) where
       (ap (λ b. b and ltb (count_e w) (echo_quorum u)) (ne_eqb (count_r w) u.k (λ q. omega arith)), eq-eqb _ _ e)
 
   abbrev IsComplete : List Call → Type 0
-  IsComplete cs = is_done (after u cs).progress.completion ≡ true
+  IsComplete cs = is_some (after u cs).progress.completion ≡ true
 
   complete_on : (c : Call) (cs : List Call) → IsComplete cs → IsComplete (c ∷ cs)
   unfolding after
@@ -95,12 +94,12 @@ module _ (u : SetUp) (set_up_lem : (set_up u).answer.no ≡ 0) where
   -- ---- its share is the pair kept for its matrix
 
   -- the slot is in use
-  done_used : (s : ℕ) (cs : List Call) → (after u cs).progress.completion ≡ With s → (s < 20) × ((slot_at (after u cs) s).used ≡ true)
+  done_used : (s : ℕ) (cs : List Call) → (after u cs).progress.completion ≡ Some s → (s < 20) × ((slot_at (after u cs) s).used ≡ true)
   done_used s cs e = let done = (good u set_up_lem cs).facts.progress.completion s e in (done.within, done.used)
 
   -- and has a pair
-  pub done_kept : (s : ℕ) (cs : List Call) → (after u cs).progress.completion ≡ With s
-      → (s < 20) × (is_there (slot_at (after u cs) s).pair.kept ≡ true)
+  pub done_kept : (s : ℕ) (cs : List Call) → (after u cs).progress.completion ≡ Some s
+      → (s < 20) × (is_some (slot_at (after u cs) s).pair ≡ true)
   done_kept s cs e =
       let x = after u cs in
       let facts = (good u set_up_lem cs).facts in
@@ -109,17 +108,17 @@ module _ (u : SetUp) (set_up_lem : (set_up u).answer.no ≡ 0) where
       let enough = le-leb x.setup.k (count_r (slot_at x s)) (omega arith) in
       (done.within, (facts.slots.each s done.within).right ∙ or_right (leb (echo_quorum x.setup) (count_e (slot_at x s))) _ enough)
 
-  pub share_kept : (s : ℕ) (cs : List Call) → (after u cs).progress.completion ≡ With s
-      → kept_for (after u cs) (matrix_of (slot_at (after u cs) s)) ≡ (slot_at (after u cs) s).pair.kept
+  pub share_kept : (s : ℕ) (cs : List Call) → (after u cs).progress.completion ≡ Some s
+      → kept_for (after u cs) (matrix_of (slot_at (after u cs) s)) ≡ (slot_at (after u cs) s).pair
   share_kept s cs e =
       let h = done_used s cs e in
       kept_of (after u cs) (matrix_of (slot_at (after u cs) s))
-      ∙ ap (λ (w : Slot). w.pair.kept) (slot_used (after u cs) (good u set_up_lem cs) s h.0 h.1)
+      ∙ ap (λ (w : Slot). w.pair) (slot_used (after u cs) (good u set_up_lem cs) s h.0 h.1)
 
   -- ---- it stays
 
-  module _ (s : ℕ) (cs : List Call) (done : (after u cs).progress.completion ≡ With s) where
-    pub completion_on : (later : List Call) → (after u (later ++ cs)).progress.completion ≡ With s
+  module _ (s : ℕ) (cs : List Call) (done : (after u cs).progress.completion ≡ Some s) where
+    pub completion_on : (later : List Call) → (after u (later ++ cs)).progress.completion ≡ Some s
     unfolding after
     completion_on [] = done
     completion_on (c ∷ later) = (turn_at u set_up_lem (later ++ cs) c).turned.still s (completion_on later)
@@ -130,11 +129,11 @@ module _ (u : SetUp) (set_up_lem : (set_up u).answer.no ≡ 0) where
     matrix_on (c ∷ later) =
         ((turn_at u set_up_lem (later ++ cs) c).turned.stays s (done_used s (later ++ cs) (completion_on later)).1).1 ∙ matrix_on later
 
-    pub share_on : (later : List Call) → (slot_at (after u (later ++ cs)) s).pair.kept ≡ (slot_at (after u cs) s).pair.kept
+    pub share_on : (later : List Call) → (slot_at (after u (later ++ cs)) s).pair ≡ (slot_at (after u cs) s).pair
     share_on later =
         let M = matrix_of (slot_at (after u cs) s) in
         let kept = there_some _ (done_kept s cs done).1 in
-        let then : (slot_of (after u cs) M).pair.kept ≡ There kept.0 = sym (kept_of (after u cs) M) ∙ share_kept s cs done ∙ kept.1 in
+        let then : (slot_of (after u cs) M).pair ≡ Some kept.0 = sym (kept_of (after u cs) M) ∙ share_kept s cs done ∙ kept.1 in
         sym (share_kept s (later ++ cs) (completion_on later))
         ∙ ap (kept_for (after u (later ++ cs))) (matrix_on later)
         ∙ kept_of (after u (later ++ cs)) M

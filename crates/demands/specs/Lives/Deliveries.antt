@@ -230,7 +230,7 @@ module _ (x : Record) (g : Good x) (sender : ℕ) (bytes : List ℕ) (lent : ℕ
             slots = ap (λ (r : Record). r.slots) to ∙ st.slots;
             completion = same;
             shares = ap (λ (r : Record). r.shares) to ∙ st.shares;
-            recovered = ap (λ (r : Record). r.recovered.kept) to ∙ st.recovered;
+            recovered = ap (λ (r : Record). r.recovered) to ∙ st.recovered;
             ready = ap (λ (o : Outcome). is_ready o.answer.sent) out ∙ st.ready;
             unchecked = unchecked_now 4 h refl refl;
             shared = λ i. shares_now 4 h i ∙ and_true (eqb (sender - 1 + 1) i);

@@ -9,10 +9,8 @@ use mathlib.Core.List.{List, [], ◌∷◌}
 use native.Mathlib.Omega.{arith}
 use Rattle.folds.specs.Tests.{◌and◌, pick, true≢false}
 use Rattle.rules.specs.declared.Answer.{Answer}
-use Rattle.rules.specs.declared.Completion.{Completion}
-use Rattle.rules.specs.declared.Completion.TheVariants.{NotYet, With}
+use Rattle.std.specs.Prelude.{Option, Some, None, is_some}
 use Rattle.rules.specs.declared.SetUp.{SetUp}
-use Rattle.rules.specs.Record.{is_done}
 use Rattle.rules.specs.Answers.{set_up}
 use Rattle.rules.proofs.Laws.Facts.{hears}
 use Rattle.demands.specs.Terms.Histories.{Call, doing, after, answers}
@@ -38,9 +36,9 @@ turns : (was is now : Bool) → now ≡ (not was and is) → now ≡ true → (w
 turns true is now e h = absurd (true≢false (sym h ∙ e))
 turns false is now e h = (refl, sym e ∙ h)
 
-pub done_stays : (c c' : Completion) → Stays c c' → is_done c ≡ true → is_done c' ≡ true
-done_stays NotYet c' h e = absurd (true≢false (sym e))
-done_stays (With s) c' h e = ap is_done (h s refl)
+pub done_stays : (c c' : Option ℕ) → Stays c c' → is_some c ≡ true → is_some c' ≡ true
+done_stays None c' h e = absurd (true≢false (sym e))
+done_stays (Some s) c' h e = ap is_some (h s refl)
 
 module _ (u : SetUp) (set_up_lem : (set_up u).answer.no ≡ 0) where
   -- ---- echo
@@ -64,16 +62,16 @@ module _ (u : SetUp) (set_up_lem : (set_up u).answer.no ≡ 0) where
   -- ---- completion
 
   completions_done : (cs : List Call) → how_many (λ (a : Answer). a.completed) (answers u cs)
-      ≤ pick (is_done (after u cs).progress.completion) 1 0
+      ≤ pick (is_some (after u cs).progress.completion) 1 0
   unfolding after answers how_many
   completions_done [] = omega arith
   completions_done (c ∷ cs) =
       let t = (turn_at u set_up_lem cs c).turned in
       told_up _ (doing (after u cs) c).outcome.answer.completed
-      (is_done (after u cs).progress.completion) (is_done (next (after u cs) c).progress.completion)
+      (is_some (after u cs).progress.completion) (is_some (next (after u cs) c).progress.completion)
       (turns _ _ _ t.done)
       (done_stays _ _ t.still)
       (completions_done cs)
 
   pub complete_once : (cs : List Call) → how_many (λ (a : Answer). a.completed) (answers u cs) ≤ 1
-  complete_once cs = one_at_most _ (is_done (after u cs).progress.completion) (completions_done cs)
+  complete_once cs = one_at_most _ (is_some (after u cs).progress.completion) (completions_done cs)

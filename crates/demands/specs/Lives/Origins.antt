@@ -2,6 +2,7 @@
 --
 -- In order: what it is, by the kind of message; an answer and its bytes; the commands; a delivery; any call; a call that wrote.
 -- Assumes nothing.
+use Rattle.std.specs.Prelude.{is_some}
 use Rattle.std.specs.Prelude.{◌≡◌, Bool, true, List, [], ℕ, ◌-◌, ◌<◌, eqb, replicate, take, length}
 use Rattle.std.proofs.Math.Path.{refl, ap, subst}
 use Rattle.std.proofs.Common.{sym, ◌∙◌, arith}
@@ -18,7 +19,7 @@ use Rattle.rules.specs.declared.SetUp.{SetUp}
 use Rattle.rules.specs.declared.Slot.{Slot}
 use Rattle.rules.specs.Messages.{Message, echo, ready, tag_in, matrix_in, polynomials_in, pair_in, message_in, to_each}
 use Rattle.rules.specs.Dealing.{coins_keep, matrix_passes, polynomial_check}
-use Rattle.rules.specs.Record.{slot_at, matrix_of, is_done, is_there, shares_kept}
+use Rattle.rules.specs.Record.{slot_at, matrix_of, shares_kept}
 use Rattle.rules.specs.Steps.{Step, heard, points, ready_four, echo_four, own_slot, free_slot, slot_for, opened, keeping, send_step, ready_sent, completed, sharing, recovering, share_step, message_step, deal_step, completed_share, share_bytes, recover_step, completion_due, point_at, point_step, taken, ready_due}
 use Rattle.rules.specs.Answers.{accepted, refused, answered, first_of, deal_rows, deal, recover, refusal_heard, deliver, Done, first_row, deliver_rows}
 use Rattle.rules.proofs.Laws.DemandOne.{answered_either}
@@ -64,12 +65,12 @@ Spoken u x c Echo run =
 Spoken u x c Ready run =
     (s : ℕ)
     × (s < 20)
-    × (is_there (slot_at (next x c) s).pair.kept ≡ true)
+    × (is_some (slot_at (next x c) s).pair ≡ true)
     × (run ≡ to_each u (ready_of u (slot_at (next x c) s)))
     × (sender lent : ℕ) × (bytes : List ℕ) × (c ≡ gets sender bytes lent) × Has (next x c) (matrix_in u bytes) s
 Spoken u x c Recovery run =
     (run ≡ share_bytes u (completed_share x x.progress.completion))
-    × (is_done x.progress.completion ≡ true)
+    × (is_some x.progress.completion ≡ true)
     × (lent : ℕ) × (c ≡ commanded lent)
 
 -- ---- an answer and its bytes
@@ -146,7 +147,7 @@ module _ (x : Record) where
           let now = slot_now e in (
             slot_for x C,
             found.within,
-            ap (λ (w : Slot). is_there w.pair.kept) now,
+            ap (λ (w : Slot). is_some w.pair) now,
             ap (λ (w : Slot). to_each x.setup (ready_of x.setup w)) (sym now),
             sender,
             lent,

@@ -14,16 +14,14 @@ use Rattle.folds.specs.Tests.{pick}
 use Rattle.folds.specs.Below.{count_below, passes_below}
 use Rattle.folds.specs.Runs.{gather, length-gather_count, Every, every_nil, every_cons, every_gather_below, every_take}
 use Rattle.rules.specs.declared.Four.{Four}
-use Rattle.rules.specs.declared.Keep.{Keep}
-use Rattle.rules.specs.declared.Kept.{Kept}
-use Rattle.rules.specs.declared.Kept.TheVariants.{Absent, There}
+use Rattle.std.specs.Prelude.{Option, Some, None, is_some}
 use Rattle.rules.specs.declared.Pair.{Pair}
 use Rattle.rules.specs.declared.Point.{Point}
 use Rattle.rules.specs.declared.Point.TheVariants.{Silent, Held}
 use Rattle.rules.specs.declared.SetUp.{SetUp}
 use Rattle.rules.specs.declared.Slot.{Slot}
 use Rattle.rules.specs.Matrices.{zero_four}
-use Rattle.rules.specs.Record.{place_at, share_at, is_held, is_there, held, shares_kept}
+use Rattle.rules.specs.Record.{place_at, share_at, is_held, held, shares_kept}
 use Rattle.rules.specs.Steps.{Said, held_at, points, kept_at, share_points}
 use Rattle.rules.specs.Answers.{no_pair}
 use Rattle.demands.specs.Terms.Dealing.{Different, none}
@@ -121,15 +119,15 @@ module _ (u : SetUp) (slot : Slot) (P : ℕ → Four → Type 0) (above : (m : �
 
 -- ---- the recovery shares
 
-module _ (u : SetUp) (shares : List Keep) (P : ℕ → Pair → Type 0) (above : (m : ℕ) → m < 10 → u.n ≤ m → is_there (share_at shares m) ≡ false)
-    (each : (m : ℕ) (s : Pair) → m < 10 → share_at shares m ≡ There s → P (m + 1) s) where
-  share_piece : (m : ℕ) → m < 10 → (p : Kept) → share_at shares m ≡ p → Piece u P m (kept_at m p)
-  share_piece m l Absent e = mute
-  share_piece m l (There s) e = one s (passes_below m u.n (is_there (share_at shares m)) (ap is_there e) (above m l)) (each m s l e)
+module _ (u : SetUp) (shares : List (Option Pair)) (P : ℕ → Pair → Type 0) (above : (m : ℕ) → m < 10 → u.n ≤ m → is_some (share_at shares m) ≡ false)
+    (each : (m : ℕ) (s : Pair) → m < 10 → share_at shares m ≡ Some s → P (m + 1) s) where
+  share_piece : (m : ℕ) → m < 10 → (p : Option Pair) → share_at shares m ≡ p → Piece u P m (kept_at m p)
+  share_piece m l None e = mute
+  share_piece m l (Some s) e = one s (passes_below m u.n (is_some (share_at shares m)) (ap is_some e) (above m l)) (each m s l e)
 
-  share-length : (m : ℕ) (p : Kept) → length (kept_at m p) ≡ pick (is_there p) 1 0
-  share-length m Absent = refl
-  share-length m (There s) = refl
+  share-length : (m : ℕ) (p : Option Pair) → length (kept_at m p) ≡ pick (is_some p) 1 0
+  share-length m None = refl
+  share-length m (Some s) = refl
 
   -- Where k are kept at least, the k lowest are those of different boxes.
   pub lowest_differ : u.k ≤ length (share_points shares) → Different u no_pair (take u.k (share_points shares)) P
@@ -142,6 +140,6 @@ module _ (u : SetUp) (shares : List Keep) (P : ℕ → Pair → Type 0) (above :
   unfolding share_points shares_kept
   shares_differ h =
       let n : length (share_points shares) ≡ u.k
-      = length-gather_count _ (λ m. is_there (share_at shares m)) (λ m. share-length m (share_at shares m)) 10 ∙ h in
+      = length-gather_count _ (λ m. is_some (share_at shares m)) (λ m. share-length m (share_at shares m)) 10 ∙ h in
       subst (λ (ps : List (Said Pair)). Different u no_pair ps P) (take_all u.k (share_points shares) (omega arith))
       (lowest_differ (omega arith))

@@ -2,6 +2,7 @@
 --
 -- In order: the two, each with what it says; which of them any call comes to.
 -- Assumes nothing.
+use Rattle.std.specs.Prelude.{is_some}
 use Rattle.std.specs.Prelude.{◌≡◌, refl, Bool, true, false, List, ℕ, ◌+◌, ◌<◌, eqb}
 use Rattle.std.proofs.Common.{sym, ap, ap₂, ◌∙◌, ⊎_elim, eq-eqb}
 use Rattle.folds.specs.Tests.{◌and◌, ◌or◌, and_false, decide, and_true}
@@ -9,7 +10,7 @@ use Rattle.rules.specs.declared.Element.{Element}
 use Rattle.rules.specs.declared.Four.{Four}
 use Rattle.rules.specs.declared.Record.{Record}
 use Rattle.rules.specs.Dealing.{matrix_passes, point_check}
-use Rattle.rules.specs.Record.{group_in, is_done, marked, same_matrix}
+use Rattle.rules.specs.Record.{group_in, marked, same_matrix}
 use Rattle.rules.specs.Steps.{taken, completion_due}
 use Rattle.rules.specs.declared.Side.{Side}
 use Rattle.rules.specs.declared.Side.TheVariants.{ByEcho, ByReady}
@@ -44,7 +45,7 @@ pub record Touched (x : Record) (c : Call) (D : List (List Element)) (b : Side) 
   pub passes : matrix_passes (group_in x) x.setup.k D ≡ true
   pub check : point_check (group_in x) x.setup.k D x.setup.i (m + 1) f ≡ true
   pub completes : sends ≡ false → completion_due x.setup b (taken b (slot_of x D) m f) ≡ true
-      → is_done (next x c).progress.completion ≡ true
+      → is_some (next x c).progress.completion ≡ true
 
 pub data View (x : Record) (c : Call) (D : List (List Element)) : Type 0 where
   aside : Aside x c D → View x c D

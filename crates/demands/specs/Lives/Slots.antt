@@ -11,14 +11,13 @@ use borrow.Author.Tests.{ltb-true, lt-ltb}
 use Rattle.folds.specs.Tests.{◌and◌, pick, pick-false, and_left, and_right, and_intro, decide, true≢false, false_unless, not_true_and_false}
 use Rattle.folds.specs.Below.{count_below, first_from_passes, first_from_before, first_from_same}
 use Rattle.rules.specs.declared.Element.{Element}
-use Rattle.rules.specs.declared.Kept.{Kept}
-use Rattle.rules.specs.declared.Kept.TheVariants.{Absent, There}
+use Rattle.std.specs.Prelude.{Option, Some, None, is_some}
 use Rattle.rules.specs.declared.Pair.{Pair}
 use Rattle.rules.specs.declared.Record.{Record}
 use Rattle.rules.specs.declared.SetUp.{SetUp}
 use Rattle.rules.specs.declared.Slot.{Slot}
 use Rattle.rules.specs.Numbers.{group_keeps, numbers_keep}
-use Rattle.rules.specs.Record.{slot_at, marked, is_there, matrix_of, same_matrix, count_e, count_r, zero_slot, new_record}
+use Rattle.rules.specs.Record.{slot_at, marked, matrix_of, same_matrix, count_e, count_r, zero_slot, new_record}
 use Rattle.rules.specs.Steps.{own_slot}
 use Rattle.rules.specs.Laws.Shape.{ShapedSlot}
 use Rattle.rules.specs.declared.Side.{Side}
@@ -53,9 +52,9 @@ module _ (x : Record) (C : List (List Element)) where
   unfolding r_of count_r count_below zero_slot
   r_of_lem = reads count_r
 
-  pub kept_of : kept_for x C ≡ (slot_of x C).pair.kept
+  pub kept_of : kept_for x C ≡ (slot_of x C).pair
   unfolding kept_for zero_slot
-  kept_of = reads (λ (w : Slot). w.pair.kept)
+  kept_of = reads (λ (w : Slot). w.pair)
 
 -- it goes by the slots and k alone, and not by which of two matrices that agree
 pub slot_same : (x y : Record) (C : List (List Element)) → y.slots ≡ x.slots → y.setup ≡ x.setup → slot_of y C ≡ slot_of x C
@@ -177,16 +176,16 @@ module _ (x : Record) (g : Good x) (C : List (List Element)) (b : Side) (m : ℕ
       (some_has x g C)
 
 -- a slot with a pair is one in use
-pub slot_there : (x : Record) (C : List (List Element)) → is_there (slot_of x C).pair.kept ≡ true → slot_of x C ≡ slot_at x (own_slot x C)
+pub slot_there : (x : Record) (C : List (List Element)) → is_some (slot_of x C).pair ≡ true → slot_of x C ≡ slot_at x (own_slot x C)
 unfolding slot_of zero_slot
 slot_there x C e = go (ltb (own_slot x C) 20) e
   where
-    go : (b : Bool) → is_there (pick b (slot_at x (own_slot x C)) zero_slot).pair.kept ≡ true
+    go : (b : Bool) → is_some (pick b (slot_at x (own_slot x C)) zero_slot).pair ≡ true
         → pick b (slot_at x (own_slot x C)) zero_slot ≡ slot_at x (own_slot x C)
     go true h = refl
     go false h = absurd (true≢false (sym h))
 
 -- what is there
-pub there_some : (v : Kept) → is_there v ≡ true → (p : Pair) × (v ≡ There p)
-there_some Absent e = absurd (true≢false (sym e))
-there_some (There p) e = (p, refl)
+pub there_some : (v : Option Pair) → is_some v ≡ true → (p : Pair) × (v ≡ Some p)
+there_some None e = absurd (true≢false (sym e))
+there_some (Some p) e = (p, refl)

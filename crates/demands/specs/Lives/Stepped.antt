@@ -6,20 +6,16 @@ use Rattle.std.specs.Prelude.{◌≡◌, Bool, true, false, not, List, [], ℕ, 
 use Rattle.std.proofs.Math.Path.{refl}
 use Rattle.std.proofs.Common.{sym, ◌∙◌, arith}
 use Rattle.folds.specs.Tests.{◌and◌, ◌or◌, pick, true≢false}
-use Rattle.rules.specs.declared.Completion.{Completion}
-use Rattle.rules.specs.declared.Completion.TheVariants.{NotYet, With}
+use Rattle.std.specs.Prelude.{Option, Some, None, is_some}
 use Rattle.rules.specs.declared.Element.{Element}
 use Rattle.rules.specs.declared.Four.{Four}
-use Rattle.rules.specs.declared.Keep.{Keep}
-use Rattle.rules.specs.declared.Kept.{Kept}
-use Rattle.rules.specs.declared.Kept.TheVariants.{Absent, There}
 use Rattle.rules.specs.declared.Pair.{Pair}
 use Rattle.rules.specs.declared.Progress.{Progress}
 use Rattle.rules.specs.declared.Record.{Record}
 use Rattle.rules.specs.declared.Sent.{Sent}
 use Rattle.rules.specs.declared.Sent.TheVariants.{Nothing, Ready}
 use Rattle.rules.specs.declared.Slot.{Slot}
-use Rattle.rules.specs.Record.{group_in, slot_at, is_done, shares_kept}
+use Rattle.rules.specs.Record.{group_in, slot_at, shares_kept}
 use Rattle.rules.specs.Steps.{Step, with_progress, with_shares, with_slot, heard, points, pair_from, own_slot, free_slot, slot_for, opened, taken, keeping, ready_sent, first_completion, completing, completed, ready_due, completion_due, point_at, point_step, recovered_from, share_points, sharing, recovering, share_step}
 use Rattle.rules.specs.declared.Side.{Side}
 use Rattle.rules.proofs.Laws.Facts.{ear}
@@ -28,28 +24,28 @@ use Rattle.demands.specs.Terms.Lives.{is_send, is_echo, is_ready, is_recovery}
 -- ---- completion
 
 -- the box completed just now exactly if it had not completed and now has
-abbrev pub JustNow : Completion → Completion → Bool → Type 0
-JustNow c c' now = now ≡ (not (is_done c) and is_done c')
+abbrev pub JustNow : Option ℕ → Option ℕ → Bool → Type 0
+JustNow c c' now = now ≡ (not (is_some c) and is_some c')
 
 -- a completion stays
-abbrev pub Stays : Completion → Completion → Type 0
-Stays c c' = (s : ℕ) → c ≡ With s → c' ≡ With s
+abbrev pub Stays : Option ℕ → Option ℕ → Type 0
+Stays c c' = (s : ℕ) → c ≡ Some s → c' ≡ Some s
 
-pub as_before : (c : Completion) → JustNow c c false
-as_before NotYet = refl
-as_before (With s) = refl
+pub as_before : (c : Option ℕ) → JustNow c c false
+as_before None = refl
+as_before (Some s) = refl
 
-first_now : (c : Completion) (s : ℕ) → JustNow c (first_completion c s) (not (is_done c))
-first_now NotYet s = refl
-first_now (With r) s = refl
+first_now : (c : Option ℕ) (s : ℕ) → JustNow c (first_completion c s) (not (is_some c))
+first_now None s = refl
+first_now (Some r) s = refl
 
-first_stays : (c : Completion) (s : ℕ) → Stays c (first_completion c s)
-first_stays NotYet s r e = let z : ◌≡◌ {A = ℕ} 0 1 = cc in absurd (omega arith)
-first_stays (With a) s r e = e
+first_stays : (c : Option ℕ) (s : ℕ) → Stays c (first_completion c s)
+first_stays None s r e = let z : ◌≡◌ {A = ℕ} 0 1 = cc in absurd (omega arith)
+first_stays (Some a) s r e = e
 
-first_done : (c : Completion) (s : ℕ) → is_done (first_completion c s) ≡ true
-first_done NotYet s = refl
-first_done (With r) s = refl
+first_done : (c : Option ℕ) (s : ℕ) → is_some (first_completion c s) ≡ true
+first_done None s = refl
+first_done (Some r) s = refl
 
 -- ---- the marks of a deal and of a command
 
@@ -94,7 +90,7 @@ pub record Stepped (x : Record) (b : Side) (m s : ℕ) (v : Slot) (sends due : B
   pub recovered : st.after.recovered ≡ x.recovered
   pub done : JustNow x.progress.completion st.after.progress.completion st.completed
   pub still : Stays x.progress.completion st.after.progress.completion
-  pub completes : sends ≡ false → due ≡ true → is_done st.after.progress.completion ≡ true
+  pub completes : sends ≡ false → due ≡ true → is_some st.after.progress.completion ≡ true
 
 by_test : (P : Bool → Step → Type 0) (t : Bool) (a b : Step) → P true a → P false b → P t (pick t a b)
 by_test P true a b h g = h
@@ -102,10 +98,10 @@ by_test P false a b h g = g
 
 module _ (b : Side) (x : Record) (m s : ℕ) (v : Slot) where
   -- a step that puts this slot there, with this completion
-  puts : (sends due : Bool) (c : Completion) (sent : Sent) (bytes : List ℕ) (now : Bool)
+  puts : (sends due : Bool) (c : Option ℕ) (sent : Sent) (bytes : List ℕ) (now : Bool)
       → is_ready sent ≡ sends → is_echo sent ≡ false → is_send sent ≡ false → is_recovery sent ≡ false
       → JustNow x.progress.completion c now → Stays x.progress.completion c
-      → (sends ≡ false → due ≡ true → is_done c ≡ true)
+      → (sends ≡ false → due ≡ true → is_some c ≡ true)
       → Stepped x b m s v sends due
       (record {
         after = with_progress (with_slot (heard x (ear b + 1) m) s (pick sends (paired x v) v))
@@ -113,7 +109,7 @@ module _ (b : Side) (x : Record) (m s : ℕ) (v : Slot) where
         sent = sent;
         bytes = bytes;
         completed = now;
-        recovered = Absent;
+        recovered = None;
       })
   unfolding heard
   puts sends due c _ bytes now ready echo no-send no_recovery done still completes =
@@ -143,7 +139,7 @@ stepped b x m C f =
     by_test (λ t. Stepped x b m s v t (completion_due x.setup b v)) (ready_due x.setup b v) _ _
     (puts b x m s v true _ c Ready _ false refl refl refl refl (as_before c) (λ a e. e) (λ e. absurd (true≢false e)))
     (by_test (Stepped x b m s v false) (completion_due x.setup b v) _ _
-    (puts b x m s v false true _ Nothing [] (not (is_done c)) refl refl refl refl (first_now c s) (first_stays c s) (λ e q. first_done c s))
+    (puts b x m s v false true _ Nothing [] (not (is_some c)) refl refl refl refl (first_now c s) (first_stays c s) (λ e q. first_done c s))
     (puts b x m s v false false c Nothing [] false refl refl refl refl (as_before c) (λ a e. e) (λ e q. absurd (true≢false (sym q)))))
 
 -- ---- a recovery share
@@ -155,16 +151,16 @@ pub record Shared (x : Record) (m : ℕ) (p : Pair) (last : Bool) (st : Step) : 
   pub ears : st.after.heard ≡ (heard x 4 m).heard
   pub progress : st.after.progress ≡ x.progress
   pub shares : st.after.shares ≡ sharing x m p
-  pub recovered : st.after.recovered.kept
-      ≡ pick last (There (recovered_from (group_in x).q (share_points (sharing x m p)))) x.recovered.kept
+  pub recovered : st.after.recovered
+      ≡ pick last (Some (recovered_from (group_in x).q (share_points (sharing x m p)))) x.recovered
   pub ready : is_ready st.sent ≡ false
   pub echo : is_echo st.sent ≡ false
   pub completed : st.completed ≡ false
   pub marks : OwnMarks x.progress st.after.progress st.sent
 
 -- a step that keeps it, with this pair recovered
-keeps : (x : Record) (m : ℕ) (p : Pair) (last : Bool) (w : Keep) (r : Kept)
-    → w.kept ≡ pick last (There (recovered_from (group_in x).q (share_points (sharing x m p)))) x.recovered.kept
+keeps : (x : Record) (m : ℕ) (p : Pair) (last : Bool) (w : Option Pair) (r : Option Pair)
+    → w ≡ pick last (Some (recovered_from (group_in x).q (share_points (sharing x m p)))) x.recovered
     → Shared x m p last
     (record { after = with_shares (heard x 4 m) (sharing x m p) w; sent = Nothing; bytes = []; completed = false; recovered = r })
 unfolding heard
@@ -187,4 +183,4 @@ unfolding share_step recovering heard
 shared x m p =
     let pair = recovered_from (group_in x).q (share_points (sharing x m p)) in
     by_test (Shared x m p) (eqb (shares_kept (sharing x m p)) x.setup.k) _ _
-    (keeps x m p true (record { kept = There pair }) (There pair) refl) (keeps x m p false x.recovered Absent refl)
+    (keeps x m p true (Some pair) (Some pair) refl) (keeps x m p false x.recovered None refl)

@@ -10,13 +10,13 @@ use Rattle.std.proofs.Math.Decide.{ℕ_discrete}
 use Rattle.folds.specs.Tests.{◌and◌, ◌or◌, pick, and_false, and_true}
 use Rattle.rules.specs.declared.Element.{Element}
 use Rattle.rules.specs.declared.Four.{Four}
-use Rattle.rules.specs.declared.Kept.TheVariants.{There}
+use Rattle.std.specs.Prelude.{Option, Some, None, is_some}
 use Rattle.rules.specs.declared.Marks.{Marks}
 use Rattle.rules.specs.declared.Record.{Record}
 use Rattle.rules.specs.declared.SetUp.{SetUp}
 use Rattle.rules.specs.declared.Slot.{Slot}
 use Rattle.rules.specs.Numbers.{group_of}
-use Rattle.rules.specs.Record.{group_in, slot_at, marked, place_at, matrix_of, count_e, count_r, is_done, same_matrix, no_slot}
+use Rattle.rules.specs.Record.{group_in, slot_at, marked, place_at, matrix_of, count_e, count_r, same_matrix, no_slot}
 use Rattle.rules.specs.Steps.{mark, points, pair_from, slot_for, opened, first_point, holding, keeping, taken, ready_due, completion_due}
 use Rattle.rules.specs.Laws.Shape.{ShapedSlot}
 use Rattle.rules.specs.declared.Side.{Side}
@@ -64,7 +64,7 @@ pub record SlotTook (u : SetUp) (b : Side) (m : ℕ) (f : Four) (sends : Bool) (
   pub test : sends ≡ ready_due u b (taken b w m f)
   pub places : v.places ≡ holding w m f
   pub marks : (a : Side) → marks_of a v ≡ marks_of a (taken b w m f)
-  pub pair : v.pair.kept ≡ pick sends (There (pair_from (group_of u.group).q (take u.k (points v.places)))) w.pair.kept
+  pub pair : v.pair ≡ pick sends (Some (pair_from (group_of u.group).q (take u.k (points v.places)))) w.pair
 
 -- record y is x after a message for C
 pub record Took (x y : Record) (b : Side) (m : ℕ) (C : List (List Element)) (f : Four) (sends : Bool) : Type 0 where
@@ -75,7 +75,7 @@ pub record Took (x y : Record) (b : Side) (m : ℕ) (C : List (List Element)) (f
   pub has : (D : List (List Element)) → same_matrix x.setup.k C D ≡ true → Has y D (slot_for x C)
   -- where no ready is sent, the box completes if that is due
   pub completes : (D : List (List Element)) → same_matrix x.setup.k C D ≡ true → sends ≡ false
-      → completion_due x.setup b (taken b (slot_of x D) m f) ≡ true → is_done y.progress.completion ≡ true
+      → completion_due x.setup b (taken b (slot_of x D) m f) ≡ true → is_some y.progress.completion ≡ true
 
 -- a slot v that took the message into o, an opened one that holds what w does: paired or not
 module _ (x : Record) (b : Side) (m : ℕ) (f : Four) (o w : Slot) (e : o ≡ dressed w o.rows) where
@@ -105,11 +105,11 @@ module _ (x : Record) (b : Side) (m : ℕ) (f : Four) (o w : Slot) (e : o ≡ dr
   it_marks false ByReady = ap (λ (v : Slot). (taken b v m f).readied) e
 
   it_pair : (sends : Bool)
-      → (after_it sends).pair.kept
-      ≡ pick sends (There (pair_from (group_in x).q (take x.setup.k (points (after_it sends).places)))) w.pair.kept
+      → (after_it sends).pair
+      ≡ pick sends (Some (pair_from (group_in x).q (take x.setup.k (points (after_it sends).places)))) w.pair
   unfolding keeping
   it_pair true = refl
-  it_pair false = ap (λ (v : Slot). v.pair.kept) e
+  it_pair false = ap (λ (v : Slot). v.pair) e
 
   -- what is due then goes by the counts
   it_due : (due : SetUp → Side → Slot → Bool)

@@ -9,7 +9,7 @@ use Rattle.std.proofs.Common.{sym, ap, ◌∙◌}
 use Rattle.folds.specs.Tests.{◌and◌, pick, true≢false}
 use Rattle.rules.specs.declared.Element.{Element}
 use Rattle.rules.specs.declared.Four.{Four}
-use Rattle.rules.specs.declared.Kept.TheVariants.{There}
+use Rattle.std.specs.Prelude.{Option, Some, None, is_some}
 use Rattle.rules.specs.declared.Outcome.{Outcome}
 use Rattle.rules.specs.declared.Pair.{Pair}
 use Rattle.rules.specs.declared.Progress.{Progress}
@@ -17,7 +17,7 @@ use Rattle.rules.specs.declared.Record.{Record}
 use Rattle.rules.specs.declared.Sent.{Sent}
 use Rattle.rules.specs.declared.Sent.TheVariants.{Send, Recovery}
 use Rattle.rules.specs.Dealing.{matrix_passes, point_check}
-use Rattle.rules.specs.Record.{group_in, slot_at, matrix_of, is_there, shares_kept, same_matrix}
+use Rattle.rules.specs.Record.{group_in, slot_at, matrix_of, shares_kept, same_matrix}
 use Rattle.rules.specs.Steps.{Step, heard, with_progress, sending, recovered_from, share_points, sharing, deal_step, recover_step}
 use Rattle.rules.specs.Answers.{accepted, refused, answered, share_checks, deal, recover, Done}
 use Rattle.rules.proofs.Laws.DemandOne.{answered_either}
@@ -84,14 +84,14 @@ pub record Keeps (x : Record) (c : Call) (m : ℕ) (p : Pair) : Type 0 where
   pub slots : (next x c).slots ≡ x.slots
   pub completion : (next x c).progress.completion ≡ x.progress.completion
   pub shares : (next x c).shares ≡ sharing x m p
-  pub recovered : (next x c).recovered.kept
-      ≡ pick (eqb (shares_kept (sharing x m p)) x.setup.k) (There (recovered_from (group_in x).q (share_points (sharing x m p))))
-      x.recovered.kept
+  pub recovered : (next x c).recovered
+      ≡ pick (eqb (shares_kept (sharing x m p)) x.setup.k) (Some (recovered_from (group_in x).q (share_points (sharing x m p))))
+      x.recovered
   pub ready : is_ready (doing x c).outcome.answer.sent ≡ false
   pub unchecked : (b : Side) (i : ℕ) (D : List (List Element)) → checks_now x c (ear b + 1) i D ≡ false
   pub shared : (i : ℕ) → share_now x c i ≡ eqb (m + 1) i
   pub pair : pair_of c ≡ p
-  pub unrecovered : is_there x.recovered.kept ≡ false
+  pub unrecovered : is_some x.recovered ≡ false
   pub check : share_checks x x.progress.completion (m + 1) p ≡ true
 
 pub data Way (x : Record) (c : Call) : Type 0 where

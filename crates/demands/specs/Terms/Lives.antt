@@ -7,8 +7,7 @@ use Rattle.std.specs.Prelude.{Bool, false, List, [], ◌∷◌, ℕ, ◌+◌, eq
 use Rattle.folds.specs.Tests.{◌and◌, ◌or◌, pick}
 use Rattle.rules.specs.declared.Element.{Element}
 use Rattle.rules.specs.declared.Four.{Four}
-use Rattle.rules.specs.declared.Kept.{Kept}
-use Rattle.rules.specs.declared.Kept.TheVariants.{Absent, There}
+use Rattle.std.specs.Prelude.{Option, Some, None, is_some}
 use Rattle.rules.specs.declared.Pair.{Pair}
 use Rattle.rules.specs.declared.Point.{Point}
 use Rattle.rules.specs.declared.Point.TheVariants.{Silent}
@@ -19,7 +18,6 @@ use Rattle.rules.specs.declared.SetUp.{SetUp}
 use Rattle.rules.specs.Messages.{tag_in, matrix_in, four_in, pair_in, echo, ready, recovery, polynomials_in, to_each}
 use Rattle.rules.specs.Record.{slot_at, same_matrix, count_e, count_r}
 use Rattle.rules.specs.Steps.{Said, points, own_slot, first_point, echo_four, ready_four}
-use Rattle.rules.specs.declared.Completion.TheVariants.{With}
 use Rattle.rules.specs.Answers.{Done}
 use Rattle.demands.specs.Terms.Histories.{Call, deals, gets, commanded, doing, after, wrote, message_to, own}
 use Rattle.demands.specs.Terms.Dealing.{order, sends_of}
@@ -75,9 +73,9 @@ pair_of (gets sender bytes lent) = pair_in bytes
 pair_of (commanded lent) = pair_in []
 
 -- the checked recovery share of sender m; absent, as long as there is none
-unfoldable pub share_said : SetUp → List Call → ℕ → Kept
-share_said u [] m = Absent
-share_said u (c ∷ cs) m = pick (share_now (after u cs) c m) (There (pair_of c)) (share_said u cs m)
+unfoldable pub share_said : SetUp → List Call → ℕ → Option Pair
+share_said u [] m = None
+share_said u (c ∷ cs) m = pick (share_now (after u cs) c m) (Some (pair_of c)) (share_said u cs m)
 
 -- ---- what a box holds for a matrix
 
@@ -89,8 +87,8 @@ unfoldable pub r_of : Record → List (List Element) → ℕ
 r_of x C = pick (ltb (own_slot x C) 20) (count_r (slot_at x (own_slot x C))) 0
 
 -- the pair kept for a matrix
-unfoldable pub kept_for : Record → List (List Element) → Kept
-kept_for x C = pick (ltb (own_slot x C) 20) (slot_at x (own_slot x C)).pair.kept Absent
+unfoldable pub kept_for : Record → List (List Element) → Option Pair
+kept_for x C = pick (ltb (own_slot x C) 20) (slot_at x (own_slot x C)).pair None
 
 -- the k lowest points held for a matrix
 abbrev pub lowest_for : SetUp → Record → List (List Element) → List (Said Four)
@@ -163,6 +161,6 @@ Sends u cs c Ready run =
 Sends u cs c Recovery run =
     (s lent : ℕ) × (p : Pair)
     × (c ≡ commanded lent)
-    × ((after u cs).progress.completion ≡ With s)
-    × ((slot_at (after u cs) s).pair.kept ≡ There p)
+    × ((after u cs).progress.completion ≡ Some s)
+    × ((slot_at (after u cs) s).pair ≡ Some p)
     × (run ≡ to_each u (λ j. recovery p))

@@ -2,7 +2,7 @@
 -- Assumes nothing.
 use Rattle.std.specs.Prelude.{◌≡◌, true, List, ℕ, ◌≤◌, length, take}
 use Rattle.rules.specs.declared.Element.{Element}
-use Rattle.rules.specs.declared.Keep.{Keep}
+use Rattle.std.specs.Prelude.{Option, Some, None, is_some}
 use Rattle.rules.specs.declared.Pair.{Pair}
 use Rattle.rules.specs.declared.SetUp.{SetUp}
 use Rattle.rules.specs.Numbers.{group_of, group_keeps, sizes_keep}
@@ -18,10 +18,10 @@ module _ (b : List ℕ) where
   matrix = sheet_matrix b (matrix_place b) numbers.k
 
   -- what boxes 1 to n say, and of that what is verified
-  abbrev pub says : List Keep
+  abbrev pub says : List (Option Pair)
   says = sheet_shares b (boxes_place b numbers.k) numbers.n
 
-  abbrev pub verified : List Keep
+  abbrev pub verified : List (Option Pair)
   verified = verified_shares (group_of numbers.group) numbers.k matrix numbers.n says
 
   -- the pair of the k lowest verified boxes

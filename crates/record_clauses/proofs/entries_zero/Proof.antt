@@ -17,7 +17,7 @@ use Rattle.rules.specs.declared.Element.{Element}
 use Rattle.rules.specs.declared.Slot.{Slot}
 use Rattle.rules.specs.Numbers.{element}
 use Rattle.rules.specs.Matrices.{entry}
-use Rattle.rules.specs.Record.{no_row, row_at, matrix_of, entries_zero}
+use Rattle.rules.specs.Record.{matrix_of, entries_zero}
 use Rattle.folds.specs.Loops.{all_fails, all_passed}
 use Rattle.record_clauses.specs.Clauses.{zero_from}
 use Rattle.record_clauses.proofs.entries_zero.Statement.{statement}

@@ -11,4 +11,4 @@ kept_below_spec =
     (λ c. search rules)
     (λ c κs. search rules)
     (λ c. search rules)
-    (λ c. rw c.in-There.is c.pair_below.ensures))
+    (λ c. rw c.in-Some.is c.pair_below.ensures))

@@ -1,4 +1,5 @@
 -- `pair_keeps` is the test that a kept pair is there exactly if e ≥ E or r ≥ k. Assumes nothing.
+use Rattle.std.specs.Prelude.{is_some}
 use mathlib.Core.Path.{◌≡◌, sym, ap, ap₂, ◌∙◌}
 use mathlib.Core.Bool.{true, false}
 use mathlib.Core.Logic.{⊎_elim}
@@ -33,7 +34,7 @@ returns c =
     let e : leb (echo_quorum u) (count_e slot) ≡ false = sym asked ∙ lt-leb _ _ w.if-echo_quorum-count_marks.false in
     rw e (w.enough-is ∙ ap (leb u.k) w.count_marks-else-echo_quorum-count_marks.ensures))
     met.if-echo_quorum-count_marks.branch-raw in
-    beq_same c.is_there.result met.if-echo_quorum-count_marks.enough ∙ ap₂ same c.is_there.ensures enough
+    beq_same c.is_some.result met.if-echo_quorum-count_marks.enough ∙ ap₂ same c.is_some.ensures enough
 
 pub pair_keeps_spec : {M : Type 1} → statement M
 pair_keeps_spec =

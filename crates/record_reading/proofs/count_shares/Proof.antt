@@ -9,14 +9,14 @@ use native.Mathlib.Omega.{arith}
 use borrow.Author.Rules.{rules}
 use Rattle.folds.specs.Found.{found3}
 use Rattle.folds.specs.Below.{count_below_le}
-use Rattle.rules.specs.declared.Keep.{Keep}
-use Rattle.rules.specs.Record.{is_there, share_at, shares_kept}
+use Rattle.std.specs.Prelude.{Option, Some, None, is_some}
+use Rattle.rules.specs.Record.{share_at, shares_kept}
 use Rattle.folds.specs.Loops.{Counted, counted_start, counted_more, counted_all}
 use Rattle.record_reading.proofs.count_shares.Statement.{statement}
 use Rattle.record_reading.proofs.count_shares.Tie as tie
 
-abbrev there : List Keep → ℕ → Bool
-there shares m = is_there (share_at shares m)
+abbrev there : List (Option Pair) → ℕ → Bool
+there shares m = is_some (share_at shares m)
 
 abbrev invariant-loop-m : tie.invariant-loop-m
 invariant-loop-m shares n₀ m₀ n m = Counted (there shares) 10 m n
@@ -31,8 +31,8 @@ loop-again : tie.Need-loop-m-preserved invariant-loop-m decreases-loop-m
 loop-again c =
     let turn = c.before.before.before in
     let next = counted_more _ 10 _ turn.loop-m-test.true turn.before.loop-m.invariant in
-    let test = sym c.before.is_there.ensures in
-    ⊎_elim (λ w. next.0 (test ∙ w.if-is_there.true) w.n-is) (λ w. next.1 (test ∙ w.if-is_there.false) w.n-is) c.if-is_there.branch-raw
+    let test = sym c.before.is_some.ensures in
+    ⊎_elim (λ w. next.0 (test ∙ w.if-is_some.true) w.n-is) (λ w. next.1 (test ∙ w.if-is_some.false) w.n-is) c.if-is_some.branch-raw
 
 returns : tie.Need-returns invariant-loop-m decreases-loop-m
 unfolding shares_kept

@@ -5,7 +5,6 @@ use lib.ListN.{length, get_or}
 use borrow.Author.Rules.{rules}
 use Rattle.folds.specs.Found.{found6}
 use Rattle.folds.specs.Loops.{Filling, filling_none, filling_more, filling_map}
-use Rattle.rules.specs.Record.{no_row, row_at}
 use Rattle.record_reading.proofs.matrix_of.Statement.{statement}
 use Rattle.record_reading.proofs.matrix_of.Tie as tie
 

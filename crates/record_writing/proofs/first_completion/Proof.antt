@@ -7,4 +7,4 @@ enum_told : tie.Need-enum_told-1
 enum_told c = search rules
 
 pub first_completion_spec : {M : Type 1} → statement M
-first_completion_spec = tie.close (tie.spec enum_told (λ c. search rules) (λ c. rw c.in-NotYet.is) (λ c. rw c.in-With.is))
+first_completion_spec = tie.close (tie.spec enum_told (λ c. search rules) (λ c. rw c.in-None.is) (λ c. rw c.in-Some.is))

@@ -2,22 +2,22 @@
 --
 -- In order: echo and ready as two sides of one thing; the set-up numbers; a slot; the record.
 -- Assumes nothing.
+use Rattle.rules.specs.declared.Pair.{Pair}
 use Rattle.std.specs.Prelude.{◌≡◌, Bool, true, false, List, ℕ, ◌+◌, ◌<◌, ◌≤◌, eqb, leb, get_or}
 use Rattle.std.proofs.Common.{sym, ◌∙◌, arith}
 use Rattle.folds.specs.Tests.{◌or◌, or_false}
 use Rattle.folds.specs.Below.{any_below}
 use Rattle.rules.specs.declared.SetUp.{SetUp}
-use Rattle.rules.specs.declared.Keep.{Keep}
+use Rattle.std.specs.Prelude.{Option, Some, None, is_some}
 use Rattle.rules.specs.declared.Marks.{Marks}
 use Rattle.rules.specs.declared.Slot.{Slot}
-use Rattle.rules.specs.declared.Completion.TheVariants.{With}
 use Rattle.rules.specs.declared.Progress.{Progress}
 use Rattle.rules.specs.declared.Record.{Record}
 use Rattle.rules.specs.declared.Side.{Side}
 use Rattle.rules.specs.declared.Side.TheVariants.{ByEcho, ByReady}
 use Rattle.rules.specs.Numbers.{group_of, group_keeps, numbers_keep, echo_quorum}
 use Rattle.rules.specs.Dealing.{matrix_passes}
-use Rattle.rules.specs.Record.{no_marks, no_slot, slot_at, marked, place_at, share_at, matrix_of, is_there, is_done, held, count_e, count_r, shares_kept, same_matrix, point_below, kept_below, entries_zero}
+use Rattle.rules.specs.Record.{no_marks, no_slot, slot_at, marked, place_at, share_at, matrix_of, held, count_e, count_r, shares_kept, same_matrix, point_below, kept_below, entries_zero}
 use Rattle.rules.proofs.Laws.Numbers.{bounds, quorum, group_rule}
 
 -- ---- echo and ready
@@ -51,14 +51,14 @@ pub record Needed (u : SetUp) : Type 0 where
 -- what a slot holds, but for its being in use and its pair's being there: those change as a message is taken
 pub record Contents (u : SetUp) (slot : Slot) : Type 0 where
   pub points : (m : ℕ) → m < 10 → point_below (group_of u.group).q (place_at slot m).point ≡ true
-  pub pair : kept_below (group_of u.group).q slot.pair.kept ≡ true
+  pub pair : kept_below (group_of u.group).q slot.pair ≡ true
   pub passes : slot.used ≡ true → matrix_passes (group_of u.group) u.k (matrix_of slot) ≡ true
   pub places : (m : ℕ) → m < 10 → held slot m ≡ marked slot.echoed m or marked slot.readied m
   pub zero : entries_zero u.k slot ≡ true
   pub above : (m : ℕ) → m < 10 → u.n ≤ m → held slot m ≡ false
 
 abbrev pub PairRight : SetUp → Slot → Type 0
-PairRight u slot = is_there slot.pair.kept ≡ leb (echo_quorum u) (count_e slot) or leb u.k (count_r slot)
+PairRight u slot = is_some slot.pair ≡ leb (echo_quorum u) (count_e slot) or leb u.k (count_r slot)
 
 pub record SlotFacts (u : SetUp) (slot : Slot) : Type 0 where
   pub contents : Contents u slot
@@ -89,17 +89,17 @@ pub record SlotsFacts (u : SetUp) (slots : List Slot) (ears : List Marks) : Type
   pub heard : (b : Side) (m s : ℕ) → m < 10 → s < 20 → marked (marks_of b (get_or slots s no_slot)) m ≡ true → marked (get_or ears (ear b) no_marks) m ≡ true
 
 pub record ProgressFacts (u : SetUp) (slots : List Slot) (v : Progress) : Type 0 where
-  pub completion : (s : ℕ) → v.completion ≡ With s → DoneWith u s (get_or slots s no_slot)
-  pub commanded : v.commanded ≡ true → is_done v.completion ≡ true
+  pub completion : (s : ℕ) → v.completion ≡ Some s → DoneWith u s (get_or slots s no_slot)
+  pub commanded : v.commanded ≡ true → is_some v.completion ≡ true
   pub dealt : v.dealt ≡ true → eqb u.i u.d ≡ true
 
-pub record SharesFacts (u : SetUp) (shares : List Keep) (recovered : Keep) (ears : List Marks) (commanded : Bool) : Type 0 where
+pub record SharesFacts (u : SetUp) (shares : List (Option Pair)) (recovered : Option Pair) (ears : List Marks) (commanded : Bool) : Type 0 where
   pub below : (m : ℕ) → m < 10 → kept_below (group_of u.group).q (share_at shares m) ≡ true
-  pub recovered_below : kept_below (group_of u.group).q recovered.kept ≡ true
-  pub shared : (m : ℕ) → m < 10 → is_there (share_at shares m) ≡ true → commanded ≡ true
+  pub recovered_below : kept_below (group_of u.group).q recovered ≡ true
+  pub shared : (m : ℕ) → m < 10 → is_some (share_at shares m) ≡ true → commanded ≡ true
   pub at_most : shares_kept shares ≤ u.k
-  pub senders : (m : ℕ) → m < 10 → marked (get_or ears 3 no_marks) m ≡ is_there (share_at shares m)
-  pub exactly : is_there recovered.kept ≡ eqb (shares_kept shares) u.k
+  pub senders : (m : ℕ) → m < 10 → marked (get_or ears 3 no_marks) m ≡ is_some (share_at shares m)
+  pub exactly : is_some recovered ≡ eqb (shares_kept shares) u.k
 
 pub record Facts (x : Record) : Type 0 where
   pub group : group_keeps x.setup ≡ true

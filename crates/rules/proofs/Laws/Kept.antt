@@ -4,6 +4,7 @@
 -- `TakenSlot`); one part of the record anew (`Changes`); the checked messages (`Checked`). Here: what a call leaves; for each
 -- call what it has passed where it is accepted, and the theorem.
 -- Assumes nothing.
+use Rattle.std.specs.Prelude.{is_some}
 use Rattle.std.specs.Prelude.{◌≡◌, refl, Bool, true, List, ℕ, ◌-◌, ◌<◌, ◌≤◌, length}
 use Rattle.std.proofs.Common.{sym, arith}
 use Rattle.std.proofs.Math.Path.{subst}
@@ -11,7 +12,7 @@ use Rattle.folds.specs.Tests.{and_right, pick-either}
 use Rattle.rules.specs.declared.Record.{Record}
 use Rattle.rules.specs.declared.Side.TheVariants.{ByEcho, ByReady}
 use Rattle.rules.specs.Messages.{Message, tag_in, pair_in, message_in}
-use Rattle.rules.specs.Record.{is_done, sound}
+use Rattle.rules.specs.Record.{sound}
 use Rattle.rules.specs.Steps.{Step, heard, send_step, message_step, deal_step, recover_step}
 use Rattle.rules.specs.Answers.{first_row, first_of, accepted, refused, answered, deal_rows, deal, recover_rows, recover, exponents_keep, deliver_rows, refusal_heard, deliver, Done}
 use Rattle.rules.proofs.Laws.DemandOne.{answered_either, marked_tag}
@@ -104,7 +105,7 @@ module _ (x : Record) (sender : ℕ) (bytes : List ℕ) (h : sound x ≡ true) (
       point_good x (sender - 1) h g c.hearing.within ByReady _ _ (matrix_fits x.setup bytes (c.passes (omega arith))) below (rw e at c.hearing.unheard)))
       (λ e. of _ (is_recovery_lem u bytes e) (λ below.
       recovery_good x (sender - 1) h g c.hearing.within (pair_in bytes) below (rw e at c.hearing.unheard)
-      (and_right (is_done x.progress.completion) _ (c.hearing.commanded e))
+      (and_right (is_some x.progress.completion) _ (c.hearing.commanded e))
       (c.hearing.unrecovered e)))
 
 -- The record after a delivery is sound.

@@ -2,6 +2,7 @@
 --
 -- In order: whole lengths; room ("no call ever needs more than 1,990 bytes"), and where each of n messages stands; the lent buffer.
 -- Assumes nothing.
+use Rattle.rules.specs.declared.Pair.{Pair}
 use Rattle.std.specs.Prelude.{Bool, true, false, List, ◌∷◌, ◌++◌, [], ◌≡◌, refl, ℕ, ◌+◌, ◌-◌, ◌*◌, ◌≤◌, eqb, get_or, take, drop}
 use Rattle.std.proofs.Common.{append-nil, sym, ap, ◌∙◌, mul-le-mul, length-append, length-drop, get_or-append-add, get_or-drop, take_at}
 use native.Mathlib.Omega.{arith}
@@ -17,9 +18,7 @@ use Rattle.rules.specs.declared.SetUp.{SetUp}
 use Rattle.rules.specs.declared.Side.{Side}
 use Rattle.rules.specs.declared.Side.TheVariants.{ByEcho, ByReady}
 use Rattle.rules.specs.declared.Slot.{Slot}
-use Rattle.rules.specs.declared.Keep.{Keep}
-use Rattle.rules.specs.declared.Kept.{Kept}
-use Rattle.rules.specs.declared.Kept.TheVariants.{Absent, There}
+use Rattle.std.specs.Prelude.{Option, Some, None, is_some}
 use Rattle.rules.specs.declared.Record.{Record}
 use Rattle.rules.specs.Numbers.{group_keeps}
 use Rattle.rules.specs.Matrices.{entry, coefficient}
@@ -148,7 +147,7 @@ module _ (x : Record) (hn : x.setup.n ≤ 10) (hk : x.setup.k ≤ 8) where
       pick_room (ready_due x.setup b slot) _ _ (ready_sent_room s slot (lowest x slot))
       (pick_room (completion_due x.setup b slot) (completed (with_slot x s slot) s) (quiet (with_slot x s slot)) (omega arith) (omega arith))
 
-  recovering_room : (shares : List Keep) → Room (recovering x shares)
+  recovering_room : (shares : List (Option Pair)) → Room (recovering x shares)
   unfolding recovering
   recovering_room shares = pick_room (eqb (shares_kept shares) x.setup.k) _ _ (omega arith) (omega arith)
 
@@ -162,9 +161,9 @@ module _ (x : Record) (hn : x.setup.n ≤ 10) (hk : x.setup.k ≤ 8) where
   unfolding recover_step
   recover_step_room = go (completed_share x x.progress.completion)
     where
-      go : (s : Kept) → length (share_bytes x.setup s) ≤ 1990
-      go Absent = omega arith
-      go (There s) = to_each_room x.setup (λ j. recovery s) hn hk
+      go : (s : Option Pair) → length (share_bytes x.setup s) ≤ 1990
+      go None = omega arith
+      go (Some s) = to_each_room x.setup (λ j. recovery s) hn hk
 
 -- A checked message makes a box send at most 1,990 bytes.
 pub message_step_room : (x : Record) → x.setup.n ≤ 10 → x.setup.k ≤ 8 → (m : ℕ) (msg : Message) → length (message_step x m msg).bytes ≤ 1990

@@ -2,6 +2,7 @@
 --
 -- In order: the lengths; the clauses of a sound record; the all-zero record; set-up.
 -- Assumes nothing.
+use Rattle.std.specs.Prelude.{[]}
 use Rattle.std.specs.Prelude.{◌≡◌, refl, Bool, true, false, not, ltb, replicate}
 use Rattle.std.proofs.Common.{sym, ◌∙◌}
 use native.Mathlib.Omega.{arith}
@@ -12,7 +13,7 @@ use Rattle.folds.specs.Below.{all_below, any_below, count_below, all_below_at, a
 use Rattle.rules.specs.declared.Slot.{Slot}
 use Rattle.rules.specs.declared.SetUp.{SetUp}
 use Rattle.rules.specs.Numbers.{element, group_keeps, numbers_keep, echo_quorum}
-use Rattle.rules.specs.Record.{no_row, no_slot, no_marks, slot_at, shares_kept, count_e, count_r, zero_slot, new_record, zero_record, setup_keeps, slot_below, exponents_below, matrices_differ, matrices_pass, marks_keep, places_keep, use_keeps, pair_keeps, recovery_keeps, dealt_keeps, entries_zero, sender_zero, unused_zero, matrix_of, sound}
+use Rattle.rules.specs.Record.{no_slot, no_marks, slot_at, shares_kept, count_e, count_r, zero_slot, new_record, zero_record, setup_keeps, slot_below, exponents_below, matrices_differ, matrices_pass, marks_keep, places_keep, use_keeps, pair_keeps, recovery_keeps, dealt_keeps, entries_zero, sender_zero, unused_zero, matrix_of, sound}
 use Rattle.rules.specs.Steps.{quiet}
 use Rattle.rules.specs.Answers.{set_up, set_up_rows, first_of, outcome_of, accepted}
 use Rattle.rules.specs.Laws.Shape.{Shaped, ShapedSlot}
@@ -29,7 +30,7 @@ unfolding zero_slot
 zero-slot =
     record {
       rows = refl;
-      row = λ j l. rw (get_or-replicate 8 j (record { at = replicate 8 (element 0) }) no_row l);
+      row = λ j l. rw (get_or-replicate 8 j (replicate 8 (element 0)) [] l);
       places = refl;
       echoed = refl;
       readied = refl;

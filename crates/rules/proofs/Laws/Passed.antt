@@ -3,6 +3,7 @@
 -- In order: a deal and a recovery command that are accepted; a delivery that gets a hearing, one that is accepted, and one that
 -- is refused at its hearing and marks its sender heard; the record after a refusal.
 -- Assumes nothing.
+use Rattle.std.specs.Prelude.{is_some}
 use Rattle.std.specs.Prelude.{◌≡◌, true, List, ◌++◌, ◌≢◌, ℕ, eqb}
 use Rattle.std.proofs.Math.Path.{refl, ap}
 use Rattle.std.proofs.Common.{◌∙◌, arith}
@@ -11,7 +12,6 @@ use borrow.Author.Tests.{le-leb, eq-eqb, eqb-true, ltb-false, not-false, ne_eqb}
 use Rattle.folds.specs.Tests.{◌and◌, and_rest, or_false, false_unless}
 use Rattle.rules.specs.declared.Record.{Record}
 use Rattle.rules.specs.Messages.{tag_in, has_matrix}
-use Rattle.rules.specs.Record.{is_done}
 use Rattle.rules.specs.Answers.{Refusal, first_row, first_of, call_rows, own_deal_rows, deal_rows, own_recover_rows, recover_rows, form_rows, turn_rows, hearing_tests, hearing_rows, early_rows, deliver_rows, refusal_heard}
 use Rattle.rules.proofs.Laws.Numbers.{is_box_lem}
 use Rattle.rules.proofs.Laws.RoundTrip.{formed}
@@ -47,8 +47,8 @@ recover_passed x lent e =
     let row_of = past (recover_rows x lent) refl e in
     record {
       called = called x lent (both_passed (call_rows x lent) (own_recover_rows x) refl e).0;
-      completed = not-false _ (or_false (not (is_done x.progress.completion)) _ (row_of 13)).0;
-      first = (or_false (not (is_done x.progress.completion)) _ (row_of 13)).1;
+      completed = not-false _ (or_false (not (is_some x.progress.completion)) _ (row_of 13)).0;
+      first = (or_false (not (is_some x.progress.completion)) _ (row_of 13)).1;
     }
 
 -- ---- delivery

@@ -26,7 +26,7 @@ use Rattle.rules.specs.Numbers.{element, exponent, group_of, group_keeps}
 use Rattle.rules.specs.Matrices.{row, matrix, entry, coefficient₂}
 use Rattle.rules.specs.Messages.{matrix_in}
 use Rattle.rules.specs.Dealing.{committed, commitment, along_y, along_x, polynomials_of, matrix_passes, four_below, pair_below}
-use Rattle.rules.specs.Record.{no_row, row_at, matrix_of, entries_zero}
+use Rattle.rules.specs.Record.{matrix_of, entries_zero}
 use Rattle.rules.proofs.Laws.Numbers.{group_rule, group_sizes}
 use Rattle.rules.proofs.Laws.Matrices.{row_at_lem, row-length, row_zero, matrix_height, matrix_filled, matrix_empty, entry_at}
 use Rattle.rules.proofs.Laws.Checks.{entry_below, four_lows, pair_lows}
@@ -76,7 +76,7 @@ module _ (u : SetUp) (keeps : group_keeps u ≡ true) (high : u.k ≤ 8) where
 
     held_width : (j : ℕ) → j < 8 → length (get_or held j []) ≡ 8
     unfolding matrix_of
-    held_width j l = ap length (get_or-map row_at slot.rows j no_row) ∙ shape.row j l
+    held_width = shape.row
 
     -- outside the first k rows and columns all is zero
     outside : (j l : ℕ) → j < 8 → l < 8 → ltb j u.k and ltb l u.k ≡ false → get_or (get_or held j []) l (element 0) ≡ element 0
@@ -116,7 +116,7 @@ module _ (u : SetUp) (keeps : group_keeps u ≡ true) (high : u.k ≤ 8) where
     pub slot_room : matrix_passes group u.k (matrix_of slot) ≡ true → MatrixFits u.k (matrix_of slot)
     unfolding matrix_of
     slot_room passes =
-        let n : length (matrix_of slot) ≡ 8 = length-map slot.rows row_at ∙ shape.rows in
+        let n : length (matrix_of slot) ≡ 8 = shape.rows in
         record {
           small = entry_small (matrix_of slot) passes;
           form = ext_get_or [] held (matrix u.k (element 0) made) (n ∙ sym (matrix_height u.k (element 0) made)) (λ j lt. row_form j (omega arith));

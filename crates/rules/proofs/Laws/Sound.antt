@@ -13,12 +13,11 @@ use borrow.Author.Tests.{ltb-true, ltb-false, leb-true, eqb-true, not-true, le-l
 use Rattle.folds.specs.Tests.{◌and◌, same, implies, and_left, and_right, and_intro, or_cases, or_left, or_right, same_eq, eq_same, implies_at, implies_intro, iff_same, true≢false, false_unless, decide}
 use Rattle.folds.specs.Below.{all_below, any_below, count_below, all_below_at, all_below_all, any_below_here, any_below_some, count_below_one, count_below_two}
 use Rattle.rules.specs.declared.Element.{Element}
-use Rattle.rules.specs.declared.Completion.{Completion}
-use Rattle.rules.specs.declared.Completion.TheVariants.{NotYet, With}
+use Rattle.std.specs.Prelude.{Option, Some, None, is_some}
 use Rattle.rules.specs.declared.Record.{Record}
 use Rattle.rules.specs.Numbers.{group_keeps}
 use Rattle.rules.specs.Matrices.{entry}
-use Rattle.rules.specs.Record.{group_in, slot_at, heard_for, place_at, share_at, matrix_of, is_there, is_done, held, shares_kept, same_matrix, setup_keeps, point_below, kept_below, slot_below, exponents_below, matrices_differ, matrices_pass, echo_mark, ready_mark, marks_keep, places_keep, use_keeps, pair_keeps, completion_keeps, recovery_keeps, dealt_keeps, entries_zero, sender_zero, unused_zero, sound}
+use Rattle.rules.specs.Record.{group_in, slot_at, heard_for, place_at, share_at, matrix_of, held, shares_kept, same_matrix, setup_keeps, point_below, kept_below, slot_below, exponents_below, matrices_differ, matrices_pass, echo_mark, ready_mark, marks_keep, places_keep, use_keeps, pair_keeps, completion_keeps, recovery_keeps, dealt_keeps, entries_zero, sender_zero, unused_zero, sound}
 use Rattle.rules.specs.Laws.Numbers.{Ranges}
 use Rattle.rules.proofs.Laws.Numbers.{ranges}
 use Rattle.rules.proofs.Laws.Clauses.{Clauses, clauses, is_sound}
@@ -72,7 +71,7 @@ module _ (x : Record) (c : Clauses x) where
   unfolding exponents_below
   below_at s l = all_below_at _ 20 s (and_left _ _ c.exponents) l
 
-  shares_below : all_below 10 (λ m. kept_below (group_in x).q (share_at x.shares m)) and kept_below (group_in x).q x.recovered.kept ≡ true
+  shares_below : all_below 10 (λ m. kept_below (group_in x).q (share_at x.shares m)) and kept_below (group_in x).q x.recovered ≡ true
   unfolding exponents_below
   shares_below = and_right (all_below 20 (λ s. slot_below (group_in x).q (slot_at x s))) _ c.exponents
 
@@ -114,7 +113,7 @@ module _ (x : Record) (c : Clauses x) where
       record {
         contents = contents_at s l;
         in_use = same_eq (slot_at x s).used _ (all_below_at (λ s. use_keeps (slot_at x s)) 20 s c.use' l);
-        right = same_eq (is_there (slot_at x s).pair.kept) _ (all_below_at (λ s. pair_keeps x.setup (slot_at x s)) 20 s c.pairs l);
+        right = same_eq (is_some (slot_at x s).pair) _ (all_below_at (λ s. pair_keeps x.setup (slot_at x s)) 20 s c.pairs l);
       }
 
   differ_below : (s r : ℕ) → s < 20 → r < s → (slot_at x s).used ≡ true → (slot_at x r).used ≡ true
@@ -136,9 +135,9 @@ module _ (x : Record) (c : Clauses x) where
   side_clause ByEcho = and_left _ _ c.marks
   side_clause ByReady = and_right (mark_clause (echo_mark x) (hears x 1)) _ c.marks
 
-  done_with : (d : Completion) → completion_keeps x d ≡ true → (s : ℕ) → d ≡ With s → DoneWith x.setup s (slot_at x s)
-  done_with NotYet h s e = let z : ◌≡◌ {A = ℕ} 0 1 = cc in absurd (omega arith)
-  done_with (With a) h s e =
+  done_with : (d : Option ℕ) → completion_keeps x d ≡ true → (s : ℕ) → d ≡ Some s → DoneWith x.setup s (slot_at x s)
+  done_with None h s e = let z : ◌≡◌ {A = ℕ} 0 1 = cc in absurd (omega arith)
+  done_with (Some a) h s e =
       let q : a ≡ s = cc in
       let h1 = and_right (ltb a 20) _ h in
       subst (λ (i : ℕ). DoneWith x.setup i (slot_at x i)) q
@@ -147,8 +146,8 @@ module _ (x : Record) (c : Clauses x) where
   facts_of : Facts x
   unfolding setup_keeps recovery_keeps dealt_keeps
   facts_of =
-      let r1 = and_right (implies x.progress.commanded (is_done x.progress.completion)) _ c.recovery in
-      let r2 = and_right (all_below 10 (λ m. implies (is_there (share_at x.shares m)) x.progress.commanded)) _ r1 in
+      let r1 = and_right (implies x.progress.commanded (is_some x.progress.completion)) _ c.recovery in
+      let r2 = and_right (all_below 10 (λ m. implies (is_some (share_at x.shares m)) x.progress.commanded)) _ r1 in
       let r3 = and_right (leb (shares_kept x.shares) x.setup.k) _ r2 in
       record {
         group = and_left _ _ c.setup;
@@ -167,10 +166,10 @@ module _ (x : Record) (c : Clauses x) where
         shares = record {
           below = λ m l. all_below_at _ 10 m (and_left _ _ shares_below) l;
           recovered_below = and_right (all_below 10 (λ m. kept_below (group_in x).q (share_at x.shares m))) _ shares_below;
-          shared = λ m l. implies_at (is_there (share_at x.shares m)) _ (all_below_at _ 10 m (and_left _ _ r1) l);
+          shared = λ m l. implies_at (is_some (share_at x.shares m)) _ (all_below_at _ 10 m (and_left _ _ r1) l);
           at_most = leb-true _ _ (and_left _ _ r2);
           senders = λ m l. same_eq (heard_for x 4 m) _ (all_below_at _ 10 m (and_left _ _ r3) l);
-          exactly = same_eq _ _ (and_right (all_below 10 (λ m. same (heard_for x 4 m) (is_there (share_at x.shares m)))) _ r3);
+          exactly = same_eq _ _ (and_right (all_below 10 (λ m. same (heard_for x 4 m) (is_some (share_at x.shares m)))) _ r3);
         };
         none = heard_none;
       }
@@ -221,17 +220,17 @@ module _ (x : Record) (c : Facts x) where
 
   pairs_keep : all_below 20 (λ s. pair_keeps x.setup (slot_at x s)) ≡ true
   unfolding pair_keeps
-  pairs_keep = all_below_all _ 20 (λ s l. eq_same (is_there (slot_at x s).pair.kept) _ (c.slots.each s l).right)
+  pairs_keep = all_below_all _ 20 (λ s l. eq_same (is_some (slot_at x s).pair) _ (c.slots.each s l).right)
 
-  completion_keeps_lem : (d : Completion) → ((s : ℕ) → d ≡ With s → DoneWith x.setup s (slot_at x s)) → completion_keeps x d ≡ true
-  completion_keeps_lem NotYet h = refl
-  completion_keeps_lem (With s) h = let w = h s refl in and_intro _ _ (lt-ltb s 20 w.within) (and_intro _ _ w.used (le-leb _ _ w.readies))
+  completion_keeps_lem : (d : Option ℕ) → ((s : ℕ) → d ≡ Some s → DoneWith x.setup s (slot_at x s)) → completion_keeps x d ≡ true
+  completion_keeps_lem None h = refl
+  completion_keeps_lem (Some s) h = let w = h s refl in and_intro _ _ (lt-ltb s 20 w.within) (and_intro _ _ w.used (le-leb _ _ w.readies))
 
   recovery_keeps_lem : recovery_keeps x ≡ true
   unfolding recovery_keeps
   recovery_keeps_lem =
       and_intro _ _ (implies_intro _ _ c.progress.commanded)
-      (and_intro _ _ (all_below_all _ 10 (λ m l. implies_intro (is_there (share_at x.shares m)) _ (c.shares.shared m l)))
+      (and_intro _ _ (all_below_all _ 10 (λ m l. implies_intro (is_some (share_at x.shares m)) _ (c.shares.shared m l)))
       (and_intro _ _ (le-leb _ _ c.shares.at_most)
       (and_intro _ _ (all_below_all _ 10 (λ m l. eq_same (heard_for x 4 m) _ (c.shares.senders m l)))
       (eq_same _ _ c.shares.exactly))))

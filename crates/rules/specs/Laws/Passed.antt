@@ -1,5 +1,6 @@
 -- What holds of a call past rows of the table, as contracts ask for it. That the rows give it stands in proofs/Laws/Passed.
 -- Assumes nothing.
+use Rattle.std.specs.Prelude.{is_some}
 use Rattle.std.specs.Prelude.{◌≡◌, true, List, ℕ, ◌-◌, ◌<◌, ◌≤◌, eqb}
 use Rattle.std.proofs.Math.Bool.{false}
 use Rattle.folds.specs.Tests.{◌and◌}
@@ -7,7 +8,7 @@ use Rattle.rules.specs.declared.Record.{Record}
 use Rattle.rules.specs.Numbers.{is_box}
 use Rattle.rules.specs.Messages.{tag_in, foreign, matrix_in, message_in}
 use Rattle.rules.specs.Dealing.{matrix_passes, coins_keep}
-use Rattle.rules.specs.Record.{group_in, heard_for, is_done, is_there, sound}
+use Rattle.rules.specs.Record.{group_in, heard_for, sound}
 use Rattle.rules.specs.Answers.{exponents_keep, checks}
 use Rattle.rules.specs.Laws.RoundTrip.{Formed}
 
@@ -24,7 +25,7 @@ pub record DealPassed (x : Record) (secret : ℕ) (coins : List ℕ) (lent : ℕ
 
 pub record RecoverPassed (x : Record) (lent : ℕ) : Type 0 where
   pub called : Called x lent
-  pub completed : is_done x.progress.completion ≡ true
+  pub completed : is_some x.progress.completion ≡ true
   pub first : x.progress.commanded ≡ false
 
 -- a message that gets a hearing
@@ -35,8 +36,8 @@ pub record Hearing (x : Record) (sender : ℕ) (bytes : List ℕ) : Type 0 where
   pub form : Formed x.setup bytes
   pub ours : foreign x.setup bytes ≡ false
   pub dealer : tag_in bytes ≡ 1 → sender ≡ x.setup.d
-  pub commanded : tag_in bytes ≡ 4 → is_done x.progress.completion and x.progress.commanded ≡ true
-  pub unrecovered : tag_in bytes ≡ 4 → is_there x.recovered.kept ≡ false
+  pub commanded : tag_in bytes ≡ 4 → is_some x.progress.completion and x.progress.commanded ≡ true
+  pub unrecovered : tag_in bytes ≡ 4 → is_some x.recovered ≡ false
   pub unheard : heard_for x (tag_in bytes) (sender - 1) ≡ false
 
 -- and is accepted

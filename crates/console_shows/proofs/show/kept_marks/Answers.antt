@@ -1,4 +1,5 @@
 -- `kept_marks` marks the boxes whose recovery share is kept. The loop's invariant: the first m marks are stored. Assumes nothing.
+use Rattle.std.specs.Prelude.{is_some}
 use mathlib.Core.Bool.{Bool}
 use mathlib.Core.List.{List}
 use mathlib.Core.Path.{◌≡◌, refl, ap}
@@ -13,7 +14,7 @@ pub loop-m-init : goal.loop-m-init
 loop-m-init c = filling_none
 
 pub loop-m-preserved : goal.loop-m-preserved
-loop-m-preserved c = filling_more c.loop-m.invariant c.loop-m-test.true c.is_there.ensures
+loop-m-preserved c = filling_more c.loop-m.invariant c.loop-m-test.true c.is_some.ensures
 
 pub returns : goal.returns
 returns c =

@@ -8,5 +8,5 @@ use Rattle.console_shows.proofs.show.put_completed.Goals as goal
 pub returns : goal.returns
 unfolding completed_line text
 returns c =
-    let kept = kept_text (text " share ") (text " share none\n") c.args.keep.kept in
+    let kept = kept_text (text " share ") (text " share none\n") c.args.keep in
     puts_then c.args.page.now c.args.at (numbered (text "completed place ") c.args.s) kept 21 31 c.put_numbered-next.ensures c.put_kept.ensures

@@ -8,15 +8,15 @@ use Rattle.console_shows.proofs.show.put_completion.Goals as goal
 pub returns-then-s-ge-SLOTS : goal.returns-then-s-ge-SLOTS
 unfolding text
 returns-then-s-ge-SLOTS c =
-    rw (c.in-With.is, le-ltb c.in-With.s 20 c.if-s-ge-SLOTS.true)
+    rw (c.in-Some.is, le-ltb c.in-Some.s 20 c.if-s-ge-SLOTS.true)
     (puts_word_room c.args.page.now c.args.at (text "completed no place\n") 52 (omega arith) c.put_word-then-s-ge-SLOTS.ensures)
 
-pub returns-in-NotYet : goal.returns-in-NotYet
+pub returns-in-None : goal.returns-in-None
 unfolding text
-returns-in-NotYet c =
-    rw c.in-NotYet.is
+returns-in-None c =
+    rw c.in-None.is
     (puts_word_room c.args.page.now c.args.at (text "not completed\n") 52 (omega arith) c.put_word.ensures)
 
 pub returns-else-s-ge-SLOTS : goal.returns-else-s-ge-SLOTS
 returns-else-s-ge-SLOTS c =
-    rw (c.in-With.is, lt-ltb c.in-With.s 20 c.if-s-ge-SLOTS.false) c.put_completed.ensures
+    rw (c.in-Some.is, lt-ltb c.in-Some.s 20 c.if-s-ge-SLOTS.false) c.put_completed.ensures

@@ -14,13 +14,13 @@ returns c =
     let full : c.before.before.args.k ≤ c.before.before.args.all.count = omega arith in
     rw (le-leb _ _ full)
 
-returns-2 : tie.Need-returns-in-Absent
+returns-2 : tie.Need-returns-in-None
 unfolding considered
-returns-2 c = rw (lt-leb _ _ c.if-k-all.false, c.in-Absent.is)
+returns-2 c = rw (lt-leb _ _ c.if-k-all.false, c.in-None.is)
 
-returns-3 : tie.Need-returns-in-There
+returns-3 : tie.Need-returns-in-Some
 unfolding considered
-returns-3 c = rw (lt-leb _ _ c.if-k-all.false, c.in-There.is) c.with_point.ensures
+returns-3 c = rw (lt-leb _ _ c.if-k-all.false, c.in-Some.is) c.with_point.ensures
 
 pub consider_spec : {M : Type 1} → statement M
 consider_spec =

@@ -8,7 +8,7 @@ use lib.ListN.{get_or, take}
 use borrow.Author.Rules.{rules}
 use Rattle.folds.specs.Found.{found6}
 use Rattle.folds.specs.Runs.{gather, gather-zero, gather-more}
-use Rattle.rules.specs.declared.Keep.{Keep}
+use Rattle.std.specs.Prelude.{Option, Some, None, is_some}
 use Rattle.rules.specs.declared.Pair.{Pair}
 use Rattle.rules.specs.Record.{nothing, share_at}
 use Rattle.rules.specs.Steps.{Said, kept_at, share_points}
@@ -17,7 +17,7 @@ use Rattle.record_points.proofs.Lists.{considered_none, considered_more}
 use Rattle.record_points.proofs.points.points_kept.Statement.{statement}
 use Rattle.record_points.proofs.points.points_kept.Tie as tie
 
-abbrev pair_at : List Keep → ℕ → List (Said Pair)
+abbrev pair_at : List (Option Pair) → ℕ → List (Said Pair)
 pair_at keeps i = kept_at i (share_at keeps i)
 
 abbrev invariant-loop-m : tie.invariant-loop-m

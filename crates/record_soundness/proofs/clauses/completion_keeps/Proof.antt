@@ -11,19 +11,19 @@ use Rattle.record_soundness.proofs.clauses.completion_keeps.Statement.{statement
 use Rattle.record_soundness.proofs.clauses.completion_keeps.Tie as tie
 
 returns : tie.Need-returns-then-s-ge-SLOTS
-returns c = rw (c.in-With.is, le-ltb _ 20 c.if-s-ge-SLOTS.true)
+returns c = rw (c.in-Some.is, le-ltb _ 20 c.if-s-ge-SLOTS.true)
 
 returns-2 : tie.Need-returns-then-not-slot
 returns-2 c =
-    let unused : (slot_at c.args.x c.in-With.s).used ≡ false = not-true _ c.if-not-slot.true in
-    rw (c.in-With.is, lt-ltb _ 20 c.if-s-ge-SLOTS.false, unused)
+    let unused : (slot_at c.args.x c.in-Some.s).used ≡ false = not-true _ c.if-not-slot.true in
+    rw (c.in-Some.is, lt-ltb _ 20 c.if-s-ge-SLOTS.false, unused)
 
 returns-4 : tie.Need-returns-else-not-slot
 unfolding count_r count_marks
 returns-4 c =
     let x = c.args.x in
-    let used : (slot_at x c.in-With.s).used ≡ true = not-false _ c.if-not-slot.false in
-    rw (c.in-With.is, lt-ltb _ 20 c.if-s-ge-SLOTS.false, used)
+    let used : (slot_at x c.in-Some.s).used ≡ true = not-false _ c.if-not-slot.false in
+    rw (c.in-Some.is, lt-ltb _ 20 c.if-s-ge-SLOTS.false, used)
     (ap (leb (x.setup.k + x.setup.t)) c.count_marks.ensures)
 
 pub completion_keeps_spec : {M : Type 1} → statement M

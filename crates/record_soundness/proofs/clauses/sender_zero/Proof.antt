@@ -1,4 +1,5 @@
 -- `sender_zero` is the test that nothing of a sender is there. Assumes nothing.
+use Rattle.std.specs.Prelude.{is_some}
 use mathlib.Core.Path.{◌≡◌, refl, sym, ap, ◌∙◌}
 use mathlib.Core.Bool.{not}
 use Prim.Native.Nat.{ℕ, ◌+◌}
@@ -41,7 +42,7 @@ returns-3 c =
       sym first.before.slots_clear.ensures ∙ first.if-not-slots_clear.false,
       tags a.x a.m ∙ sym second.before.heard_clear.ensures ∙ second.if-not-heard_clear.false,
     )
-    (ap not c.is_there.ensures)
+    (ap not c.is_some.ensures)
 
 pub sender_zero_spec : {M : Type 1} → statement M
 sender_zero_spec =

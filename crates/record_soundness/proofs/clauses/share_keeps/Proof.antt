@@ -12,10 +12,10 @@ use Rattle.record_soundness.proofs.clauses.share_keeps.Tie as tie
 -- a share is there: all but the last test of it
 most : (c : tie.Joined-heard)
     → let a = c.args in
-    share_keeps a.q a.commanded a.heard a.share.kept ≡ (c.if-heard.t-9 and pair_below a.q c.in-There.pair)
+    share_keeps a.q a.commanded a.heard a.share ≡ (c.if-heard.t-9 and pair_below a.q c.in-Some.pair)
 most c =
     let a = c.args in
-    chain (pair_below a.q c.in-There.pair) (ap (share_keeps a.q a.commanded a.heard) c.in-There.is)
+    chain (pair_below a.q c.in-Some.pair) (ap (share_keeps a.q a.commanded a.heard) c.in-Some.is)
     (⊎_map (λ w. (w.if-heard.true, w.t-9-is)) (λ w. (w.if-heard.false, w.t-9-is)) c.if-heard.branch-raw)
 
 pub share_keeps_spec : {M : Type 1} → statement M

@@ -14,15 +14,13 @@ use Rattle.std.proofs.lemmas.Bool.{eqb-false}
 use Rattle.folds.specs.Below.{any_below, count_below_up}
 use Rattle.folds.specs.Stores.{set-each}
 use Rattle.rules.specs.declared.Pair.{Pair}
-use Rattle.rules.specs.declared.Keep.{Keep}
+use Rattle.std.specs.Prelude.{Option, Some, None, is_some}
 use Rattle.rules.specs.declared.Marks.{Marks}
 use Rattle.rules.specs.declared.Slot.{Slot}
-use Rattle.rules.specs.declared.Completion.{Completion}
-use Rattle.rules.specs.declared.Completion.TheVariants.{NotYet, With}
 use Rattle.rules.specs.declared.Progress.{Progress}
 use Rattle.rules.specs.declared.Record.{Record}
 use Rattle.rules.specs.Dealing.{pair_below}
-use Rattle.rules.specs.Record.{nothing, no_marks, no_slot, group_in, slot_at, marked, share_at, matrix_of, is_there, is_done, held, count_r, shares_kept, same_matrix, kept_below, entries_zero}
+use Rattle.rules.specs.Record.{nothing, no_marks, no_slot, group_in, slot_at, marked, share_at, matrix_of, held, count_r, shares_kept, same_matrix, kept_below, entries_zero}
 use Rattle.rules.specs.Steps.{with_progress, with_slot, with_shares, mark, heard, keeping, first_completion, completing, sharing}
 use Rattle.rules.specs.Laws.Shape.{ShapedSlot, Shaped}
 use Rattle.rules.specs.declared.Side.{Side}
@@ -39,8 +37,8 @@ pub record Good (x : Record) : Type 0 where
 -- ---- progress
 
 -- Progress may change to any that the record allows and that takes no command back.
-pub progress_good : (x : Record) (v : Progress) → Good x → ((s : ℕ) → v.completion ≡ With s → DoneWith x.setup s (slot_at x s))
-    → (v.commanded ≡ true → is_done v.completion ≡ true) → (x.progress.commanded ≡ true → v.commanded ≡ true)
+pub progress_good : (x : Record) (v : Progress) → Good x → ((s : ℕ) → v.completion ≡ Some s → DoneWith x.setup s (slot_at x s))
+    → (v.commanded ≡ true → is_some v.completion ≡ true) → (x.progress.commanded ≡ true → v.commanded ≡ true)
     → (v.dealt ≡ true → eqb x.setup.i x.setup.d ≡ true) → Good (with_progress x v)
 progress_good x v g done commanded stays dealt =
     let c = g.facts in
@@ -226,7 +224,7 @@ module _ (x : Record) (g : Good x) (s : ℕ) (slot : Slot) (l : s < 20) (c : Rep
       (λ r n. g.facts.slots.heard b m r lm)
       a
 
-  done_still : (a : ℕ) → x.progress.completion ≡ With a → DoneWith x.setup a (slot_at (with_slot x s slot) a)
+  done_still : (a : ℕ) → x.progress.completion ≡ Some a → DoneWith x.setup a (slot_at (with_slot x s slot) a)
   done_still a e =
       each (λ (a : ℕ) (v : Slot). DoneWith x.setup a (slot_at x a) → DoneWith x.setup a v)
       (λ h. let w = c.grows h.used in let more = w.1 in let enough = h.readies in record { within = h.within; used = w.0; readies = omega arith })
@@ -262,14 +260,14 @@ module _ (x : Record) (g : Good x) (s : ℕ) (slot : Slot) (l : s < 20) (c : Rep
 
 -- ---- completion
 
-first_with : (x : Record) (d : Completion) (s : ℕ) → DoneWith x.setup s (slot_at x s) → ((a : ℕ) → d ≡ With a → DoneWith x.setup a (slot_at x a))
-    → (a : ℕ) → first_completion d s ≡ With a → DoneWith x.setup a (slot_at x a)
-first_with x NotYet s c h a e = let q : s ≡ a = cc in subst (λ (i : ℕ). DoneWith x.setup i (slot_at x i)) q c
-first_with x (With b) s c h a e = h a e
+first_with : (x : Record) (d : Option ℕ) (s : ℕ) → DoneWith x.setup s (slot_at x s) → ((a : ℕ) → d ≡ Some a → DoneWith x.setup a (slot_at x a))
+    → (a : ℕ) → first_completion d s ≡ Some a → DoneWith x.setup a (slot_at x a)
+first_with x None s c h a e = let q : s ≡ a = cc in subst (λ (i : ℕ). DoneWith x.setup i (slot_at x i)) q c
+first_with x (Some b) s c h a e = h a e
 
-first_done : (d : Completion) (s : ℕ) → is_done (first_completion d s) ≡ true
-first_done NotYet s = refl
-first_done (With a) s = refl
+first_done : (d : Option ℕ) (s : ℕ) → is_some (first_completion d s) ≡ true
+first_done None s = refl
+first_done (Some a) s = refl
 
 -- A box may complete with a slot in use that has k + t readies.
 pub completing_good : (x : Record) (s : ℕ) → Good x → DoneWith x.setup s (slot_at x s) → Good (completing x s)
@@ -283,7 +281,7 @@ completing_good x s g c =
 
 -- ---- a recovery share kept
 
-module _ (x : Record) (g : Good x) (m : ℕ) (l : m < x.setup.n) (s : Pair) (new : hears x 3 m ≡ false) (unrecovered : is_there x.recovered.kept ≡ false) where
+module _ (x : Record) (g : Good x) (m : ℕ) (l : m < x.setup.n) (s : Pair) (new : hears x 3 m ≡ false) (unrecovered : is_some x.recovered ≡ false) where
   low : m < 10
   low = let e = (needed x g.facts).boxes in omega arith
 
@@ -294,10 +292,10 @@ module _ (x : Record) (g : Good x) (m : ℕ) (l : m < x.setup.n) (s : Pair) (new
   share_more : shares_kept (sharing x m s) ≡ shares_kept x.shares + 1
   unfolding shares_kept
   share_more =
-      count_below_up (λ i. is_there (share_at x.shares i)) (λ i. is_there (share_at (sharing x m s) i)) m 10 low
+      count_below_up (λ i. is_some (share_at x.shares i)) (λ i. is_some (share_at (sharing x m s) i)) m 10 low
       (sym (g.facts.shares.senders m low) ∙ new)
-      (ap (λ (v : Keep). is_there v.kept) (get_or-set_same x.shares m _ nothing place))
-      (λ i n. ap (λ (v : Keep). is_there v.kept) (get_or-set_other x.shares m i _ nothing n))
+      (ap (λ (v : Option Pair). is_some v) (get_or-set_same x.shares m _ nothing place))
+      (λ i n. ap (λ (v : Option Pair). is_some v) (get_or-set_other x.shares m i _ nothing n))
 
   few : shares_kept x.shares < x.setup.k
   few =
@@ -306,8 +304,8 @@ module _ (x : Record) (g : Good x) (m : ℕ) (l : m < x.setup.n) (s : Pair) (new
       omega arith
 
   -- After a command a new box's share may be kept, with the recovered pair there exactly at the k-th.
-  pub share_good : x.progress.commanded ≡ true → pair_below (group_in x).q s ≡ true → (w : Keep) → kept_below (group_in x).q w.kept ≡ true
-      → is_there w.kept ≡ eqb (shares_kept (sharing x m s)) x.setup.k → Good (with_shares (heard x 4 m) (sharing x m s) w)
+  pub share_good : x.progress.commanded ≡ true → pair_below (group_in x).q s ≡ true → (w : Option Pair) → kept_below (group_in x).q w ≡ true
+      → is_some w ≡ eqb (shares_kept (sharing x m s)) x.setup.k → Good (with_shares (heard x 4 m) (sharing x m s) w)
   unfolding heard
   share_good commanded below w wb we =
       let f = g.facts in
@@ -319,11 +317,11 @@ module _ (x : Record) (g : Good x) (m : ℕ) (l : m < x.setup.n) (s : Pair) (new
           slots = heard_slots x 4 m f.slots;
           progress = f.progress;
           shares = record {
-            below = set-each (λ (i : ℕ) (v : Keep). i < 10 → kept_below (group_in x).q v.kept ≡ true) x.shares m _ nothing place (λ h. below) (λ r n. f.shares.below r);
+            below = set-each (λ (i : ℕ) (v : Option Pair). i < 10 → kept_below (group_in x).q v ≡ true) x.shares m _ nothing place (λ h. below) (λ r n. f.shares.below r);
             recovered_below = wb;
             shared = λ i h e. commanded;
             at_most = let a = share_more in let b = few in omega arith;
-            senders = set-each (λ (i : ℕ) (v : Keep). i < 10 → hears (heard x 4 m) 3 i ≡ is_there v.kept) x.shares m _ nothing place
+            senders = set-each (λ (i : ℕ) (v : Option Pair). i < 10 → hears (heard x 4 m) 3 i ≡ is_some v) x.shares m _ nothing place
                 (λ h. hears_own x g.shape 4 m lt low)
                 (λ r n h. hears_other x g.shape 4 m lt low 3 r (λ p q. n q) ∙ f.shares.senders r h);
             exactly = we;

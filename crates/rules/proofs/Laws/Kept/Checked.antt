@@ -2,6 +2,7 @@
 --
 -- In order: the slot of an echo or ready may stand where it is put; the steps of echo, ready and recovery share.
 -- Assumes nothing.
+use Rattle.std.specs.Prelude.{is_some}
 use Rattle.std.specs.Prelude.{◌≡◌, true, false, List, ◌⊎◌, ℕ, ◌+◌, ◌-◌, ◌<◌, ◌≤◌, eqb}
 use Rattle.std.proofs.Math.Path.{sym}
 use Rattle.std.proofs.Common.{ap, ◌∙◌, subst, inl, inr, arith, get_or-set_same, eqb-true}
@@ -14,7 +15,7 @@ use Rattle.rules.specs.declared.Slot.{Slot}
 use Rattle.rules.specs.declared.Record.{Record}
 use Rattle.rules.specs.declared.SetUp.{SetUp}
 use Rattle.rules.specs.Dealing.{four_below, pair_below}
-use Rattle.rules.specs.Record.{no_slot, group_in, slot_at, heard_for, marked, matrix_of, is_there, count_r, shares_kept, same_matrix, sound}
+use Rattle.rules.specs.Record.{no_slot, group_in, slot_at, heard_for, marked, matrix_of, count_r, shares_kept, same_matrix, sound}
 use Rattle.rules.specs.Steps.{Said, pair_from, share_points, heard, own_slot, free_slot, slot_for, opened, taken, keeping, Step, ready_sent, with_slot, ready_due, completion_due, point_at, point_step, completing, completed, sharing, recovering, share_step}
 use Rattle.rules.proofs.Laws.Room.{Found, room}
 use Rattle.rules.specs.declared.Side.{Side}
@@ -165,7 +166,7 @@ module _ (x : Record) (m : ℕ) (h : sound x ≡ true) (g : Good x) (l : m < x.s
   point_good b C f fit below e = point_at_lem b _ _ m C f (heard_taking b x m C f g (room x m C h l b e) fit l below e)
 
   -- A checked recovery share of a box not heard for one, after a command and before a pair is recovered, leaves a good record.
-  pub recovery_good : (s : Pair) → pair_below (group_in x).q s ≡ true → heard_for x 4 m ≡ false → x.progress.commanded ≡ true → is_there x.recovered.kept ≡ false
+  pub recovery_good : (s : Pair) → pair_below (group_in x).q s ≡ true → heard_for x 4 m ≡ false → x.progress.commanded ≡ true → is_some x.recovered ≡ false
       → Good (share_step (heard x 4 m) m s).after
   unfolding share_step recovering heard
   recovery_good s below e commanded none =

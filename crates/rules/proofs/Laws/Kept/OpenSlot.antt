@@ -17,14 +17,13 @@ use Rattle.folds.specs.Below.{count_below, all_below_all, count_below_none}
 use Rattle.rules.specs.declared.Element.{Element}
 use Rattle.rules.specs.declared.SetUp.{SetUp}
 use Rattle.rules.specs.declared.Place.{Place}
-use Rattle.rules.specs.declared.Row.{Row}
 use Rattle.rules.specs.declared.Slot.{Slot}
 use Rattle.rules.specs.Numbers.{element, group_of, echo_quorum}
 use Rattle.rules.specs.Matrices.{matrix, entry}
 use Rattle.rules.specs.Messages.{matrix_in}
 use Rattle.rules.specs.Dealing.{matrix_passes}
-use Rattle.rules.specs.Record.{silent, marked, place_at, row_at, matrix_of, is_held, count_e, count_r, zero_slot, entries_zero}
-use Rattle.rules.specs.Steps.{row_of, opened}
+use Rattle.rules.specs.Record.{silent, marked, place_at, matrix_of, is_held, count_e, count_r, zero_slot, entries_zero}
+use Rattle.rules.specs.Steps.{opened}
 use Rattle.rules.specs.Laws.Shape.{ShapedSlot}
 use Rattle.rules.specs.declared.Side.{Side}
 use Rattle.rules.specs.declared.Side.TheVariants.{ByEcho, ByReady}
@@ -69,20 +68,16 @@ unfoldable pub fresh : List (List Element) → Slot
 fresh C =
     record {
       used = true;
-      rows = map row_of C;
+      rows = C;
       places = zero_slot.places;
       echoed = zero_slot.echoed;
       readied = zero_slot.readied;
       pair = zero_slot.pair;
     }
 
-rows_back : (C : List (List Element)) → map row_at (map row_of C) ≡ C
-rows_back [] = refl
-rows_back (r ∷ C) = ap (λ (t : List (List Element)). r ∷ t) (rows_back C)
-
 fresh_matrix : (C : List (List Element)) → matrix_of (fresh C) ≡ C
 unfolding matrix_of fresh
-fresh_matrix C = rows_back C
+fresh_matrix C = refl
 
 -- it holds nothing, as a zero slot does
 pub zero-silent : (m : ℕ) → m < 10 → place_at zero_slot m ≡ silent
@@ -108,8 +103,8 @@ module _ (u : SetUp) (C : List (List Element)) (fit : Fits u C) where
   unfolding fresh zero_slot
   fresh_shape =
       record {
-        rows = length-map C row_of ∙ fit.height;
-        row = λ j l. ap (λ (r : Row). length r.at) (get_or-map row_of C j []) ∙ fit.width j l;
+        rows = fit.height;
+        row = fit.width;
         places = refl;
         echoed = refl;
         readied = refl;

@@ -8,7 +8,7 @@ use borrow.Author.Rules.{rules}
 use Rattle.folds.specs.Runs.{gather}
 use Rattle.rules.specs.declared.Element.{Element}
 use Rattle.rules.specs.declared.Group.{Group}
-use Rattle.rules.specs.declared.Keep.{Keep}
+use Rattle.std.specs.Prelude.{Option, Some, None, is_some}
 use Rattle.rules.specs.Record.{share_at}
 use Rattle.rules.specs.Text.{text, decimal}
 use Rattle.rules.specs.Sheet.{verdict, verdict_text, box_lines}
@@ -18,7 +18,7 @@ use Rattle.sheet_verdicts.proofs.lines.put_box_lines.Statement.{statement}
 use Rattle.sheet_verdicts.proofs.lines.put_box_lines.Tie as tie
 
 -- the line of box i + 1
-abbrev line_of : Group → ℕ → List (List Element) → List Keep → ℕ → List ℕ
+abbrev line_of : Group → ℕ → List (List Element) → List (Option Pair) → ℕ → List ℕ
 line_of G k C shares i = decimal (i + 1) ++ text " " ++ verdict_text (verdict G k C (i + 1) (share_at shares i))
 
 abbrev invariant-loop-m : tie.invariant-loop-m
