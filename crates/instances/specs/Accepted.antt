@@ -4,6 +4,7 @@
 -- In order: the calls of boxes 1, 2 and 3; what is computed of them; what it comes to; what the theorems of `Demands`
 -- say of it.
 -- Assumes nothing.
+use Rattle.rules.specs.declared.Pair.{Pair}
 use Rattle.std.specs.Prelude.{◌≡◌, refl, Bool, true, false, List, [], ◌∷◌, ℕ, length, get_or}
 use Rattle.std.proofs.Common.{sym, ap, ap₂, ◌∙◌, arith}
 use Rattle.std.specs.Prelude.{Option, Some, None, is_some}

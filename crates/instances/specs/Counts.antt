@@ -4,6 +4,7 @@
 -- first, echoes, and the last boxes; a record with a gap between places in use; one that k + t readies did not complete; the twentieth
 -- matrix; the statement.
 -- Assumes nothing.
+use Rattle.rules.specs.declared.Pair.{Pair}
 use Rattle.std.specs.Prelude.{◌≡◌, refl, Bool, true, false, List, [], ◌∷◌, ◌++◌, map, ℕ, ◌+◌, ◌*◌, ◌-◌, ◌%◌, ◌^◌, eqb, length, get_or, set, take, drop, replicate}
 use Rattle.folds.specs.Tests.{◌and◌, pick}
 use Rattle.folds.specs.Runs.{gather}

@@ -3,6 +3,7 @@
 -- In order: what is computed of it; what it comes to. What the theorems of `Demands` say of it stands in `LifeSays`, `Sent`, `Heard`
 -- and `AnyMake`.
 -- Assumes nothing.
+use Rattle.rules.specs.declared.Pair.{Pair}
 use Rattle.std.specs.Prelude.{◌≡◌, refl, Bool, true, false, List, [], ◌∷◌, map, ℕ, ◌+◌, length, get_or, take, drop}
 use Rattle.std.proofs.Common.{sym, ap, ◌∙◌}
 use Rattle.rules.specs.declared.Answer.{Answer}
@@ -229,7 +230,7 @@ one_life =
           ∙ ap (λ n. n + 1) (sym (ap (λ l. l.readies_before) all) ∙ readies_sent_lem class D before);
       lowest = ap (λ l. l.lowest_then) all;
       kept = ap (λ l. l.pair_then) all;
-      stays = ap (λ l. l) all;
+      stays = ap (λ l. l.kept) all;
       completed_then = ap (λ l. l.completed_then) all;
       share_then = ap (λ l. l.share_then) all;
       heard_2 = ap (λ l. l.heard_2) all;

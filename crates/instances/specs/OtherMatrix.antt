@@ -3,6 +3,7 @@
 --
 -- In order: the class, its two matrices and the calls; what is computed of them; what it comes to; what the theorems say of it.
 -- Assumes nothing.
+use Rattle.rules.specs.declared.Pair.{Pair}
 use Rattle.std.specs.Prelude.{◌≡◌, refl, Bool, true, false, List, [], ◌∷◌, ◌++◌, map, ℕ, ◌≤◌, get_or}
 use Rattle.std.proofs.Common.{sym, ap, subst, ◌∙◌, arith}
 use Rattle.rules.specs.declared.Answer.{Answer}

@@ -1,12 +1,13 @@
 -- Parts of a record as literals, and the statement that records are sound or not.
 -- Assumes nothing.
+use Rattle.rules.specs.declared.Pair.{Pair}
+use Rattle.rules.specs.declared.Element.{Element}
 use Rattle.std.specs.Prelude.{◌≡◌, Bool, List, map, ℕ}
 use Rattle.std.specs.Prelude.{Option, Some, None, is_some}
 use Rattle.rules.specs.declared.Marks.{Marks}
 use Rattle.rules.specs.declared.Place.{Place}
 use Rattle.rules.specs.declared.Point.TheVariants.{Held}
 use Rattle.rules.specs.declared.Record.{Record}
-use Rattle.rules.specs.declared.Row.{Row}
 use Rattle.rules.specs.declared.Slot.{Slot}
 use Rattle.rules.specs.Record.{sound}
 use Rattle.rules.specs.HandSums.{four, pair}
@@ -20,7 +21,7 @@ abbrev pub keeps : ℕ → ℕ → Option Pair
 keeps s s' = Some (pair s s')
 
 -- whether it is in use, its matrix, places and marks, and the pair kept
-abbrev pub slot : Bool → List Row → List Place → Marks → Marks → Option Pair → Slot
+abbrev pub slot : Bool → List (List Element) → List Place → Marks → Marks → Option Pair → Slot
 slot used rows places echoed readied kept =
     record { used = used; rows = rows; places = places; echoed = echoed; readied = readied; pair = kept }
 

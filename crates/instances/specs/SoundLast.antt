@@ -3,12 +3,13 @@
 --
 -- In order: records of a class of ten boxes (E is 6, k is 2, k + t is 3), box 1 of which deals; the clauses.
 -- Assumes nothing.
+use Rattle.rules.specs.declared.Pair.{Pair}
+use Rattle.rules.specs.declared.Element.{Element}
 use Rattle.std.specs.Prelude.{refl, Bool, true, false, List, [], ◌∷◌, ◌++◌, map, ℕ, replicate}
 use Rattle.std.specs.Prelude.{Option, Some, None, is_some}
 use Rattle.rules.specs.declared.Marks.{Marks}
 use Rattle.rules.specs.declared.Place.{Place}
 use Rattle.rules.specs.declared.Record.{Record}
-use Rattle.rules.specs.declared.Row.{Row}
 use Rattle.rules.specs.declared.Slot.{Slot}
 use Rattle.rules.specs.Numbers.{element}
 use Rattle.rules.specs.Record.{silent, nothing, zero_slot}
@@ -38,20 +39,20 @@ abbrev places : Place → Place → List Place
 places a b = replicate 8 silent ++ a ∷ b ∷ []
 
 -- a matrix, and what stands at the end of its first row and of its last column
-abbrev row_of : ℕ → ℕ → ℕ → Row
-row_of e e' last = record { at = element e ∷ element e' ∷ replicate 5 (element 0) ++ element last ∷ [] }
+abbrev row_of : ℕ → ℕ → ℕ → List Element
+row_of e e' last = element e ∷ element e' ∷ replicate 5 (element 0) ++ element last ∷ []
 
-abbrev rows : ℕ → ℕ → ℕ → ℕ → ℕ → ℕ → List Row
+abbrev rows : ℕ → ℕ → ℕ → ℕ → ℕ → ℕ → List (List Element)
 rows a b c d last corner = row_of a b last ∷ row_of c d 0 ∷ replicate 5 (row_of 0 0 0) ++ row_of 0 0 corner ∷ []
 
 -- the echo of box 10 with this point, and its ready, for a matrix
-abbrev echo_of : List Row → Place → Slot
+abbrev echo_of : List (List Element) → Place → Slot
 echo_of C p = slot true C (places silent p) tenth nobody nothing
 
-abbrev ready_of_lem : List Row → Slot
+abbrev ready_of_lem : List (List Element) → Slot
 ready_of_lem C = slot true C (places silent (point 0 0)) nobody tenth nothing
 
-abbrev D : List Row
+abbrev D : List (List Element)
 D = rows 4 13 8 12 0 0
 
 -- places 0 and 19, and who is heard for tags 2 and 3

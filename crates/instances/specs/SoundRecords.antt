@@ -4,12 +4,13 @@
 -- In order: parts of a record; records of the class of the hand sums (E is 3, k is 2, k + t is 3); the clauses, up to the kept pair
 -- and from completion on.
 -- Assumes nothing.
+use Rattle.rules.specs.declared.Pair.{Pair}
+use Rattle.rules.specs.declared.Element.{Element}
 use Rattle.std.specs.Prelude.{refl, Bool, true, false, List, [], ◌∷◌, map, ℕ, replicate}
 use Rattle.std.specs.Prelude.{Option, Some, None, is_some}
 use Rattle.rules.specs.declared.Marks.{Marks}
 use Rattle.rules.specs.declared.Place.{Place}
 use Rattle.rules.specs.declared.Record.{Record}
-use Rattle.rules.specs.declared.Row.{Row}
 use Rattle.rules.specs.declared.SetUp.{SetUp}
 use Rattle.rules.specs.declared.Slot.{Slot}
 use Rattle.rules.specs.Numbers.{element}
@@ -39,11 +40,11 @@ three = marks true true true false false
 abbrev all : Marks
 all = marks true true true true false
 
-abbrev row_of : ℕ → ℕ → ℕ → Row
-row_of e e' e'' = record { at = element e ∷ element e' ∷ element e'' ∷ replicate 5 (element 0) }
+abbrev row_of : ℕ → ℕ → ℕ → List Element
+row_of e e' e'' = element e ∷ element e' ∷ element e'' ∷ replicate 5 (element 0)
 
 -- entry (0, 0), and what stands in column and in row k
-abbrev rows : ℕ → ℕ → ℕ → List Row
+abbrev rows : ℕ → ℕ → ℕ → List (List Element)
 rows e column row = row_of e 13 column ∷ row_of 8 12 0 ∷ row_of row 0 0 ∷ replicate 5 (row_of 0 0 0)
 
 -- places of boxes 1 to 5

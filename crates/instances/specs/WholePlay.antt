@@ -9,7 +9,6 @@ use Rattle.std.specs.Prelude.{Option, Some, None, is_some}
 use Rattle.rules.specs.declared.Element.{Element}
 use Rattle.rules.specs.declared.Marks.{Marks}
 use Rattle.rules.specs.declared.Record.{Record}
-use Rattle.rules.specs.declared.Row.{Row}
 use Rattle.rules.specs.declared.Sent.TheVariants.{Send, Echo, Ready, Recovery}
 use Rattle.rules.specs.declared.Slot.{Slot}
 use Rattle.rules.specs.Numbers.{element}
@@ -133,8 +132,8 @@ sent =
 abbrev marks : Bool → Bool → Bool → Bool → Marks
 marks a b c d = record { at = a ∷ b ∷ c ∷ d ∷ replicate 6 false }
 
-abbrev row_of : ℕ → ℕ → Row
-row_of e e' = record { at = element e ∷ element e' ∷ replicate 6 (element 0) }
+abbrev row_of : ℕ → ℕ → List Element
+row_of e e' = element e ∷ element e' ∷ replicate 6 (element 0)
 
 -- "A sender has one point per C, its first checked one, be it in echo or ready; it may count once in e and once in r."; "The record
 -- keeps that pair from then on"

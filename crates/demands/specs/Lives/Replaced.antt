@@ -10,7 +10,6 @@ use Rattle.std.proofs.Math.Decide.{ℕ_discrete}
 use Rattle.folds.specs.Tests.{true≢false, not_true_and_false}
 use Rattle.rules.specs.declared.Element.{Element}
 use Rattle.rules.specs.declared.Record.{Record}
-use Rattle.rules.specs.declared.Row.{Row}
 use Rattle.rules.specs.declared.SetUp.{SetUp}
 use Rattle.rules.specs.declared.Slot.{Slot}
 use Rattle.rules.specs.Record.{no_slot, slot_at, matrix_of, same_matrix}
@@ -23,7 +22,7 @@ use Rattle.rules.proofs.Laws.Kept.Changes.{Good}
 use Rattle.demands.specs.Lives.Slots.{slot_of, Has, Lacks, some_has, slot_has, slot_lacks}
 
 -- what a slot holds, in use and with these rows
-abbrev pub dressed : Slot → List Row → Slot
+abbrev pub dressed : Slot → List (List Element) → Slot
 dressed w rows = record { used = true; rows = rows; places = w.places; echoed = w.echoed; readied = w.readied; pair = w.pair }
 
 dress_used : (w : Slot) → w.used ≡ true → w ≡ dressed w w.rows

@@ -16,7 +16,7 @@ abbrev outside_at : List ℕ → ℕ → Bool
 outside_at b i = is_outside (get_or b i 0)
 
 abbrev invariant-loop-i : tie.invariant-loop-i
-invariant-loop-i line i₀ i = None (outside_at line) (length line) i
+invariant-loop-i line i₀ i = NotYet (outside_at line) (length line) i
 
 abbrev decreases-loop-i : tie.decreases-loop-i
 decreases-loop-i line i₀ i = length line - i

@@ -11,7 +11,7 @@ use Rattle.console_lines.proofs.judging.bad_space.Statement.{statement}
 use Rattle.console_lines.proofs.judging.bad_space.Tie as tie
 
 abbrev invariant-loop-i : tie.invariant-loop-i
-invariant-loop-i line i₀ i = None (is_stray line) (length line) i
+invariant-loop-i line i₀ i = NotYet (is_stray line) (length line) i
 
 abbrev decreases-loop-i : tie.decreases-loop-i
 decreases-loop-i line i₀ i = length line - i

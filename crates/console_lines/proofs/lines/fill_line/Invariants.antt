@@ -16,7 +16,7 @@ pub record Has (b : List ℕ) (kept : ℕ) (buf : List ℕ) (have : ℕ) : Type 
   pub none : line_end buf 0 have ≡ have
 
 abbrev pub invariant-loop-have : goal.invariant-loop-have
-invariant-loop-have l = Has l.initial.buf l l.buf l.have
+invariant-loop-have l = Has l.initial.buf l.kept l.buf l.have
 
 abbrev pub decreases-loop-have : goal.decreases-loop-have
 decreases-loop-have l = length l.initial.buf - l.have

@@ -18,7 +18,7 @@ abbrev fails : List ℕ → Form → ℕ → Bool
 fails b f j = not (item_keeps b f j (item_place b (j + 1)))
 
 abbrev invariant-loop-j : tie.invariant-loop-j
-invariant-loop-j line form m place₀ j₀ place j = None (fails line form) m j × (place ≡ item_place line (j + 1))
+invariant-loop-j line form m place₀ j₀ place j = NotYet (fails line form) m j × (place ≡ item_place line (j + 1))
 
 abbrev decreases-loop-j : tie.decreases-loop-j
 decreases-loop-j line form m place₀ j₀ place j = m - j
