@@ -67,5 +67,5 @@ module _ (b : List ℕ) where
   items_most = count_below_le (is_space b) (length b)
 
 -- a loop that looks for the first index starts
-pub not_yet_start : (p : ℕ → Bool) (n : ℕ) → None p n 0
+pub not_yet_start : (p : ℕ → Bool) (n : ℕ) → NotYet p n 0
 not_yet_start p n = let e : n - 0 ≡ n = omega arith in (omega arith, ap (λ (k : ℕ). first_from k 0 p) e)

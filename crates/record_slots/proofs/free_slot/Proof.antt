@@ -12,7 +12,7 @@ use Rattle.record_slots.proofs.free_slot.Statement.{statement}
 use Rattle.record_slots.proofs.free_slot.Tie as tie
 
 abbrev invariant-loop-s : tie.invariant-loop-s
-invariant-loop-s slots s₀ s = None (λ i. not (slot_in slots i).used) 20 s
+invariant-loop-s slots s₀ s = NotYet (λ i. not (slot_in slots i).used) 20 s
 
 abbrev decreases-loop-s : tie.decreases-loop-s
 decreases-loop-s slots s₀ s = 20 - s

@@ -11,7 +11,7 @@ use Rattle.record_slots.proofs.own_slot.Statement.{statement}
 use Rattle.record_slots.proofs.own_slot.Tie as tie
 
 abbrev invariant-loop-s : tie.invariant-loop-s
-invariant-loop-s k c slots s₀ s = None (λ i. has_matrix k c (slot_in slots i)) 20 s
+invariant-loop-s k c slots s₀ s = NotYet (λ i. has_matrix k c (slot_in slots i)) 20 s
 
 abbrev decreases-loop-s : tie.decreases-loop-s
 decreases-loop-s k c slots s₀ s = 20 - s

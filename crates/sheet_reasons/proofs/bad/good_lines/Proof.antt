@@ -14,7 +14,7 @@ abbrev fails : List ℕ → ℕ → ℕ → Bool
 fails b k m = not (front_keeps b k m)
 
 abbrev invariant-loop-m : tie.invariant-loop-m
-invariant-loop-m b n k m₀ m = None (fails b k) (n + 1) m
+invariant-loop-m b n k m₀ m = NotYet (fails b k) (n + 1) m
 
 abbrev decreases-loop-m : tie.decreases-loop-m
 decreases-loop-m b n k m₀ m = n + 1 - m
