@@ -9,7 +9,7 @@ ghost use Rattle.rules.specs.Answers.{first_of, exponents_keep, share_checks, ch
 ghost use Rattle.rules.specs.Laws.Passed.{Hearing};
 ghost use Rattle.box_hearing.specs.Known.{Readable, matrix_fails, Checked};
 
-use rules::{Completion, Pair, Record, SetUp};
+use rules::{Pair, Record, SetUp};
 
 // 8.
 fn matrix_fails(u: SetUp, bytes: &[u8]) -> bool
@@ -53,11 +53,11 @@ fn share_passes(x: Record, number: u16, pair: Pair) -> bool
     let progress = x.progress;
     let completion = progress.completion;
     match completion {
-        Completion::NotYet => false,
-        Completion::With(s) => {
+        None => false,
+        Some(s) => {
             let slot = x.slots[s];
             let rows = slot.rows;
-            let c = record_reading::matrix_of(rows);
+            let c = rows;
             checking::share_check(group, u.k as usize, c, number, pair)
         }
     }

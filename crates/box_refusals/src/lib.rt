@@ -48,7 +48,7 @@ pub fn recover(x: Record) -> u8
 {
     let progress = x.progress;
     let completion = progress.completion;
-    if !record_reading::is_done(completion) {
+    if !completion.is_some() {
         return 13;
     }
     if progress.commanded {
@@ -86,12 +86,12 @@ pub fn turn(x: Record, sender: u32, bytes: &[u8]) -> u8
     }
     let progress = x.progress;
     let completion = progress.completion;
-    let recovering = record_reading::is_done(completion) && progress.commanded;
+    let recovering = completion.is_some() && progress.commanded;
     if tag == 4 && !recovering {
         return 5;
     }
     let recovered = x.recovered;
-    if tag == 4 && record_reading::is_there(recovered) {
+    if tag == 4 && recovered.is_some() {
         return 6;
     }
     let m = (sender - 1) as usize;

@@ -5,7 +5,7 @@ ghost use Rattle.std.specs.Prelude.{◌≡◌};
 ghost use Rattle.rules.specs.Answers.{no_pair, pair_told, refused};
 ghost use Rattle.box_step.specs.Told.{quietly, sends, told};
 
-use rules::{Answer, Exponent, Keep, Kept, Outcome, Pair, Record, Sent};
+use rules::{Answer, Exponent, Outcome, Pair, Record, Sent};
 
 // What is sent stands at the front of the lent buffer: here is how many bytes it takes.
 #[derive(Clone, Copy)]
@@ -14,7 +14,7 @@ pub struct Step {
     pub sent: Sent,
     pub bytes: usize,
     pub completed: bool,
-    pub recovered: Keep,
+    pub recovered: Option<Pair>,
 }
 
 // One that changes the record and no more.
@@ -28,7 +28,7 @@ pub fn quiet(after: Record) -> Step
 pub fn sending(after: Record, sent: Sent, bytes: usize) -> Step
     ensures { result ≡ sends after sent bytes }
 {
-    let recovered = Keep { kept: Kept::Absent };
+    let recovered = None;
     Step {
         after,
         sent,
@@ -51,8 +51,8 @@ fn pair_told(kept: Kept) -> Pair
     ensures { result ≡ pair_told kept }
 {
     match kept {
-        Kept::Absent => no_pair(),
-        Kept::There(pair) => pair,
+        None => no_pair(),
+        Some(pair) => pair,
     }
 }
 
@@ -61,8 +61,8 @@ pub fn accept(step: Step) -> Outcome
     ensures { result ≡ told step }
 {
     let keep = step.recovered;
-    let kept = keep.kept;
-    let recovered = record_reading::is_there(keep);
+    let kept = keep;
+    let recovered = keep.is_some();
     let pair = pair_told(kept);
     let sent = step.sent;
     let next = step.after;

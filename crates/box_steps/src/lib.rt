@@ -14,9 +14,7 @@ ghost use Rattle.box_step.specs.Takes.{made, Takes};
 ghost use Rattle.box_steps.specs.Sender.{Sender, Speaks};
 
 use box_step::Step;
-use rules::{
-    Completion, Element, Four, Keep, Kept, Pair, Polynomials, Record, Sent, SetUp, Side, Slot,
-};
+use rules::{Element, Four, Pair, Polynomials, Record, Sent, SetUp, Side, Slot};
 
 // ---- messages
 
@@ -42,7 +40,7 @@ fn send_ready(out: &mut [u8], x: Record, side: Side, m: usize, s: usize, fresh: 
     let places = fresh.places;
     let ready = record_points::ready_from(group.q, u.k as usize, u.n as usize, places);
     let rows = fresh.rows;
-    let c = record_reading::matrix_of(rows);
+    let c = rows;
     let fours = ready.fours;
     let bytes = message_writing::write_points(out, u, Side::ByReady, c, fours);
     let kept = record_slots::with_pair(fresh, ready.pair);
@@ -59,9 +57,9 @@ fn complete(x: Record, s: usize) -> Step
 {
     let progress = x.progress;
     let completion = progress.completion;
-    let before = record_reading::is_done(completion);
+    let before = completion.is_some();
     let after = record_writing::completed_with(x, s);
-    let recovered = Keep { kept: Kept::Absent };
+    let recovered = None;
     Step {
         after,
         sent: Sent::Nothing,
@@ -99,7 +97,7 @@ fn take_point(
 }
 
 // What these recovery shares give: the pair, where they are k.
-fn recovering(x: Record, shares: [Keep; 10]) -> Step
+fn recovering(x: Record, shares: [Option<Pair>; 10]) -> Step
     requires { Ranges x.setup }
     ensures { result ≡ made (recovering x shares) }
 {
@@ -107,9 +105,7 @@ fn recovering(x: Record, shares: [Keep; 10]) -> Step
     if record_reading::count_shares(shares) == u.k {
         let group = session_numbers::group_of(u);
         let found = record_points::recovered_from(group.q, u.k as usize, shares);
-        let recovered = Keep {
-            kept: Kept::There(found),
-        };
+        let recovered = Some(found);
         let after = record_writing::with_shares(x, shares, recovered);
         return Step {
             after,
@@ -128,9 +124,7 @@ fn take_share(x: Record, m: usize, pair: Pair) -> Step
     requires { Sender x m }
     ensures { result ≡ made (share_step (heard x 4 m) m pair) }
 {
-    let share = Keep {
-        kept: Kept::There(pair),
-    };
+    let share = Some(pair);
     let mut shares = x.shares;
     shares[m] = share;
     recovering(record_writing::heard_for(x, 4, m), shares)
@@ -199,14 +193,13 @@ fn write_own_share(out: &mut [u8], x: Record) -> usize
     let progress = x.progress;
     let completion = progress.completion;
     match completion {
-        Completion::NotYet => 0,
-        Completion::With(s) => {
+        None => 0,
+        Some(s) => {
             let slot = x.slots[s];
             let keep = slot.pair;
-            let kept = keep.kept;
-            match kept {
-                Kept::Absent => 0,
-                Kept::There(pair) => message_writing::write_shares(out, u, pair),
+            match keep {
+                None => 0,
+                Some(pair) => message_writing::write_shares(out, u, pair),
             }
         }
     }

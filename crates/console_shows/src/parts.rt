@@ -13,7 +13,7 @@ ghost use Rattle.console_shows.specs.Parts.{
   kept_text,
 };
 
-use rules::{Keep, Kept, Marks, SetUp};
+use rules::{Marks, Pair, SetUp};
 
 // ---- numbers
 
@@ -125,14 +125,13 @@ pub fn put_listed(page: &mut [u8], at: usize, word: &[u8], marks: Marks) -> usiz
 // ---- a pair
 
 // A word and the pair that is kept; or the line that there is none.
-pub fn put_kept(page: &mut [u8], at: usize, word: &[u8], none: &[u8], keep: Keep) -> usize
+pub fn put_kept(page: &mut [u8], at: usize, word: &[u8], none: &[u8], keep: Option<Pair>) -> usize
     requires { at + length word.now + length none.now + 12 ≤ length page.old }
     ensures { Puts page.old at (kept_text word.now none.now keep.kept) (length word.now + length none.now + 12) result page.new }
 {
-    let kept = keep.kept;
-    match kept {
-        Kept::Absent => text::write::put_word(page, at, none),
-        Kept::There(pair) => {
+    match keep {
+        None => text::write::put_word(page, at, none),
+        Some(pair) => {
             let first = pair.first;
             let second = pair.second;
             let next = put_numbered(page, at, word, first.0 as u32);

@@ -62,7 +62,7 @@ fn put_place(page: &mut [u8], at: usize, k: u32, s: usize, slot: Slot) -> usize
     ensures { Puts page.old at (place_line k s slot) 419 result page.new }
 {
     let rows = slot.rows;
-    let c = record_reading::matrix_of(rows);
+    let c = rows;
     let next = put_counts(page, at, s, slot);
     let next = put_word(page, next, b" matrix");
     let next = put_matrix(page, next, k, c);

@@ -18,7 +18,7 @@ ghost use Rattle.console_shows.specs.Show.{
 
 use crate::parts::{put_either, put_kept, put_listed, put_numbered, put_widely};
 use crate::places::put_places;
-use rules::{Completion, Keep, Marks, Progress, Record, SetUp, Slot};
+use rules::{Marks, Pair, Progress, Record, SetUp, Slot};
 use text::write::put_word;
 
 fn put_sizes(page: &mut [u8], at: usize, u: SetUp) -> usize
@@ -74,22 +74,22 @@ fn put_heard(page: &mut [u8], at: usize, heard: [Marks; 4]) -> usize
 
 // ---- completion and recovery
 
-fn put_completed(page: &mut [u8], at: usize, s: usize, keep: Keep) -> usize
+fn put_completed(page: &mut [u8], at: usize, s: usize, keep: Option<Pair>) -> usize
     requires { (s < 20) × (at + 52 ≤ length page.old) }
-    ensures { Puts page.old at (completed_line s keep.kept) 52 result page.new }
+    ensures { Puts page.old at (completed_line s keep) 52 result page.new }
 {
     let next = put_numbered(page, at, b"completed place ", s as u32);
     put_kept(page, next, b" share ", b" share none\n", keep)
 }
 
 // The pair is kept in the place of the completed matrix.
-fn put_completion(page: &mut [u8], at: usize, slots: [Slot; 20], done: Completion) -> usize
+fn put_completion(page: &mut [u8], at: usize, slots: [Slot; 20], done: Option<usize>) -> usize
     requires { at + 52 ≤ length page.old }
     ensures { Puts page.old at (completion_line slots done) 52 result page.new }
 {
     match done {
-        Completion::NotYet => put_word(page, at, b"not completed\n"),
-        Completion::With(s) => {
+        None => put_word(page, at, b"not completed\n"),
+        Some(s) => {
             if s >= SetUp::SLOTS {
                 return put_word(page, at, b"completed no place\n");
             }
@@ -101,20 +101,20 @@ fn put_completion(page: &mut [u8], at: usize, slots: [Slot; 20], done: Completio
 }
 
 // The boxes whose recovery share is kept.
-fn kept_marks(shares: [Keep; 10]) -> Marks
+fn kept_marks(shares: [Option<Pair>; 10]) -> Marks
     ensures { result ≡ kept_marks shares }
 {
     let mut at = [false; SetUp::BOXES];
     let mut m: usize = 0;
     while m < SetUp::BOXES {
         let keep = shares[m];
-        at[m] = record_reading::is_there(keep);
+        at[m] = keep.is_some();
         m += 1;
     }
     Marks { at }
 }
 
-fn put_kept_boxes(page: &mut [u8], at: usize, shares: [Keep; 10]) -> usize
+fn put_kept_boxes(page: &mut [u8], at: usize, shares: [Option<Pair>; 10]) -> usize
     requires { at + 65 ≤ length page.old }
     ensures { Puts page.old at (kept_line shares) 65 result page.new }
 {
@@ -139,8 +139,8 @@ fn put_last(
     at: usize,
     slots: [Slot; 20],
     progress: Progress,
-    shares: [Keep; 10],
-    recovered: Keep,
+    shares: [Option<Pair>; 10],
+    recovered: Option<Pair>,
 ) -> usize
     requires { at + 177 ≤ length page.old }
     ensures { Puts page.old at (last_lines slots progress shares recovered) 177 result page.new }

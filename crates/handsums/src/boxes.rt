@@ -1,7 +1,7 @@
 // What boxes send to each other, and take from the shares and the points that they hold.
 ghost use Rattle.std.specs.Prelude.{◌≤◌, ◌<◌};
 
-use rules::{Exponent, Four, Keep, Kept, Pair, Place, Point};
+use rules::{Exponent, Four, Pair, Place, Point};
 
 // (f(i, 0), f'(i, 0)).
 pub fn share_of(q: u16, k: usize, f: [[Exponent; 8]; 8], f2: [[Exponent; 8]; 8], i: u16) -> Pair
@@ -30,19 +30,17 @@ pub fn points_from(
 
 // ---- recovery
 
-fn none_kept() -> [Keep; 10] {
-    let absent = Keep { kept: Kept::Absent };
+fn none_kept() -> [Option<Pair>; 10] {
+    let absent = None;
     [absent; 10]
 }
 
 // The share of the box that stands at this place: box 1 at 0.
-fn also_kept(keeps: [Keep; 10], at: usize, share: Pair) -> [Keep; 10]
+fn also_kept(keeps: [Option<Pair>; 10], at: usize, share: Pair) -> [Option<Pair>; 10]
     requires { at < 10 }
 {
     let mut made = keeps;
-    let keep = Keep {
-        kept: Kept::There(share),
-    };
+    let keep = Some(share);
     made[at] = keep;
     made
 }

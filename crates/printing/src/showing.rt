@@ -1,6 +1,6 @@
 // What a box holds, a line each: its numbers, its places in use, completion, the recovery shares that it keeps, and what it recovered.
 use crate::{numbered, words};
-use rules::{Completion, Keep, Kept, Record, SetUp, Slot};
+use rules::{Pair, Record, SetUp, Slot};
 
 fn set_up(u: SetUp) {
     numbered(b"box ", u.i as usize);
@@ -23,7 +23,7 @@ fn place(k: usize, s: usize, slot: Slot) {
     numbered(b" e ", record_reading::count_marks(echoed) as usize);
     numbered(b" r ", record_reading::count_marks(readied) as usize);
     words(b" matrix ");
-    crate::matrix(b" ", k, record_reading::matrix_of(rows));
+    crate::matrix(b" ", k, rows);
     words(b"\n");
 }
 
@@ -41,11 +41,10 @@ fn places(k: usize, all: [Slot; 20]) {
 // ---- completion and recovery
 
 // The pair behind a word, or that there is none.
-fn kept_pair(word: &[u8], none: &[u8], keep: Keep) {
-    let kept = keep.kept;
-    match kept {
-        Kept::Absent => words(none),
-        Kept::There(pair) => {
+fn kept_pair(word: &[u8], none: &[u8], keep: Option<Pair>) {
+    match keep {
+        None => words(none),
+        Some(pair) => {
             words(word);
             crate::pair(b" ", pair);
         }
@@ -54,10 +53,10 @@ fn kept_pair(word: &[u8], none: &[u8], keep: Keep) {
 }
 
 // The pair is kept in the place of the completed matrix.
-fn completion(done: Completion, all: [Slot; 20]) {
+fn completion(done: Option<usize>, all: [Slot; 20]) {
     match done {
-        Completion::NotYet => words(b"not completed\n"),
-        Completion::With(s) => {
+        None => words(b"not completed\n"),
+        Some(s) => {
             if s < SetUp::SLOTS {
                 let slot = all[s];
                 let keep = slot.pair;
@@ -69,7 +68,7 @@ fn completion(done: Completion, all: [Slot; 20]) {
 }
 
 // The senders of kept recovery shares, rising.
-fn shares(all: [Keep; 10]) {
+fn shares(all: [Option<Pair>; 10]) {
     words(b"kept");
     if record_reading::count_shares(all) == 0 {
         words(b" none");
@@ -78,7 +77,7 @@ fn shares(all: [Keep; 10]) {
     while m < SetUp::BOXES {
         let keep = all[m];
         m += 1;
-        if record_reading::is_there(keep) {
+        if keep.is_some() {
             numbered(b" ", m);
         }
     }

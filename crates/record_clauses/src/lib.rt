@@ -6,7 +6,7 @@ ghost use Rattle.rules.specs.Record.{slot_below, point_below, kept_below, places
 ghost use Rattle.rules.specs.Laws.Numbers.{Sizes};
 ghost use Rattle.record_clauses.specs.Clauses.{UsedAt, differ_from, all_differ, passes_in, any_held, slot_keeps, every_slot, zero_from};
 
-use rules::{Element, Group, Keep, Kept, Place, Point, SetUp, Slot};
+use rules::{Element, Group, Pair, Place, Point, SetUp, Slot};
 
 // ---- stored exponents are below q
 
@@ -21,13 +21,12 @@ fn point_below(q: u16, place: Place) -> bool
 }
 
 // Of a kept pair; where none is kept there is nothing to break.
-pub fn kept_below(q: u16, keep: Keep) -> bool
-    ensures { result ≡ kept_below q keep.kept }
+pub fn kept_below(q: u16, keep: Option<Pair>) -> bool
+    ensures { result ≡ kept_below q keep }
 {
-    let kept = keep.kept;
-    match kept {
-        Kept::Absent => true,
-        Kept::There(pair) => checking::pair_below(q, pair),
+    match keep {
+        None => true,
+        Some(pair) => checking::pair_below(q, pair),
     }
 }
 
@@ -55,7 +54,7 @@ fn differs_below(k: usize, slots: [Slot; 20], s: usize) -> bool
 {
     let slot = slots[s];
     let rows = slot.rows;
-    let c = record_reading::matrix_of(rows);
+    let c = rows;
     let mut below: usize = 0;
     while below < s {
         let other = slots[below];
@@ -93,7 +92,7 @@ fn passes_in(group: Group, k: usize, slot: Slot) -> bool
         return true;
     }
     let rows = slot.rows;
-    let c = record_reading::matrix_of(rows);
+    let c = rows;
     checking::matrix_passes(group, k, c)
 }
 
@@ -149,7 +148,7 @@ fn pair_keeps(u: SetUp, slot: Slot) -> bool
     let pair = slot.pair;
     let enough = u.echo_quorum() <= record_reading::count_marks(echoed)
         || u.k <= record_reading::count_marks(readied);
-    record_reading::is_there(pair) == enough
+    pair.is_some() == enough
 }
 
 // ---- entries of matrices not in use, or from k on, are zero

@@ -9,7 +9,7 @@ ghost use Rattle.rules.specs.Matrices.{to_boxes, zero_four};
 ghost use Rattle.rules.specs.Steps.{points, share_points, pair_from, ready_four, recovered_from};
 ghost use Rattle.record_points.specs.Points.{Lowest};
 
-use rules::{Exponent, Four, Keep, Pair, Place};
+use rules::{Exponent, Four, Pair, Place};
 
 // The pair to keep, and what goes to boxes 1 to n; box 1's stands at 0.
 #[derive(Clone, Copy)]
@@ -46,7 +46,7 @@ pub fn ready_from(q: u16, k: usize, n: usize, places: [Place; 10]) -> Ready
 }
 
 // The pair that the recovery shares of the k lowest boxes give.
-pub fn recovered_from(q: u16, k: usize, keeps: [Keep; 10]) -> Pair
+pub fn recovered_from(q: u16, k: usize, keeps: [Option<Pair>; 10]) -> Pair
     requires { Lowest q k }
     ensures { result ≡ recovered_from q (take k (share_points keeps)) }
 {

@@ -4,7 +4,7 @@ ghost use Rattle.rules.specs.Steps.{points, share_points};
 ghost use Rattle.record_points.specs.Points.{points_of, with_point, considered, side, side_kept, side_points};
 
 use interpolation::Points;
-use rules::{Exponent, Four, Keep, Kept, Pair, Place, Point, SetUp};
+use rules::{Exponent, Four, Pair, Place, Point, SetUp};
 
 fn no_points() -> Points
     ensures { result ≡ points_of [] }
@@ -33,22 +33,21 @@ fn with_point(all: Points, number: u16, pair: Pair) -> Points
 }
 
 // One more keep, of the box with this number; at most k are taken.
-fn consider(all: Points, k: usize, number: u16, keep: Keep) -> Points
+fn consider(all: Points, k: usize, number: u16, keep: Option<Pair>) -> Points
     requires { k ≤ 8 }
     ensures { result ≡ considered k all number keep }
 {
     if k <= all.count {
         return all;
     }
-    let kept = keep.kept;
-    match kept {
-        Kept::Absent => all,
-        Kept::There(pair) => with_point(all, number, pair),
+    match keep {
+        None => all,
+        Some(pair) => with_point(all, number, pair),
     }
 }
 
 // The pairs kept of the k lowest boxes, or of all if there are fewer.
-pub fn points_kept(keeps: [Keep; 10], k: usize) -> Points
+pub fn points_kept(keeps: [Option<Pair>; 10], k: usize) -> Points
     requires { k ≤ 8 }
     ensures { result ≡ points_of (take k (share_points keeps)) }
 {
@@ -81,22 +80,20 @@ fn side_of(four: Four, row: bool) -> Pair
 }
 
 // A silent place has nothing on either side.
-fn side_in(place: Place, row: bool) -> Keep
+fn side_in(place: Place, row: bool) -> Option<Pair>
     ensures { result ≡ side_kept row place }
 {
     let point = place.point;
     match point {
-        Point::Silent => Keep { kept: Kept::Absent },
-        Point::Held(four) => Keep {
-            kept: Kept::There(side_of(four, row)),
-        },
+        Point::Silent => None,
+        Point::Held(four) => Some(side_of(four, row)),
     }
 }
 
-fn sides_in(places: [Place; 10], row: bool) -> [Keep; 10]
+fn sides_in(places: [Place; 10], row: bool) -> [Option<Pair>; 10]
     ensures { result ≡ map (side_kept row) places }
 {
-    let nothing = Keep { kept: Kept::Absent };
+    let nothing = None;
     let mut made = [nothing; 10];
     let mut m: usize = 0;
     while m < SetUp::BOXES {

@@ -4,10 +4,10 @@
 pub mod due;
 
 ghost use Rattle.std.specs.Prelude.{◌≡◌, map, ◌≤◌, ◌<◌};
-ghost use Rattle.rules.specs.Steps.{row_of, opened, keeping, slot_for, taken};
+ghost use Rattle.rules.specs.Steps.{opened, keeping, slot_for, taken};
 ghost use Rattle.record_slots.specs.Found.{own_in, free_in, held_by};
 
-use rules::{Element, Four, Keep, Kept, Marks, Pair, Place, Point, Record, Row, SetUp, Side, Slot};
+use rules::{Element, Four, Marks, Pair, Place, Point, Record, SetUp, Side, Slot};
 
 // The place of a matrix in use; 20 where there is none.
 fn own_slot(slots: [Slot; 20], k: usize, c: [[Element; 8]; 8]) -> usize
@@ -81,7 +81,7 @@ pub fn opened_for(c: [[Element; 8]; 8], slot: Slot) -> Slot
         point: Point::Silent,
     };
     let none = Marks { at: [false; 10] };
-    let nothing = Keep { kept: Kept::Absent };
+    let nothing = None;
     Slot {
         used: true,
         rows,
@@ -136,9 +136,7 @@ pub fn with_point(slot: Slot, side: Side, m: usize, four: Four) -> Slot
 pub fn with_pair(slot: Slot, pair: Pair) -> Slot
     ensures { result ≡ keeping slot pair }
 {
-    let keep = Keep {
-        kept: Kept::There(pair),
-    };
+    let keep = Some(pair);
     let mut made = slot;
     made.pair = keep;
     made

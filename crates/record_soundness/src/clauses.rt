@@ -4,7 +4,7 @@ ghost use Rattle.rules.specs.Record.{marks_keep, completion_keeps, dealt_keeps, 
 ghost use Rattle.record_clauses.specs.Clauses.{every_slot};
 ghost use Rattle.record_soundness.specs.Clauses.{marks_for, marks_in, marked_under, kind_keeps, share_keeps, shares_keep, recovery_passes, slot_clear, heard_clear, senders_clear};
 
-use rules::{Completion, Keep, Kept, Marks, Record, SetUp, Slot};
+use rules::{Marks, Pair, Record, SetUp, Slot};
 
 // ---- a sender is marked for echo or ready under at most one matrix each, and then is heard for that tag
 
@@ -94,8 +94,8 @@ pub fn completion_keeps(x: Record) -> bool
     let progress = x.progress;
     let completion = progress.completion;
     match completion {
-        Completion::NotYet => true,
-        Completion::With(s) => {
+        None => true,
+        Some(s) => {
             if SetUp::SLOTS <= s {
                 return false;
             }
@@ -114,17 +114,16 @@ pub fn completion_keeps(x: Record) -> bool
 // and the recovered pair is there exactly if k are kept
 
 // A kept share is below q and was commanded, and its sender alone is heard for tag 4.
-fn share_keeps(q: u16, commanded: bool, heard: bool, share: Keep) -> bool
-    ensures { result ≡ share_keeps q commanded heard share.kept }
+fn share_keeps(q: u16, commanded: bool, heard: bool, share: Option<Pair>) -> bool
+    ensures { result ≡ share_keeps q commanded heard share }
 {
-    let kept = share.kept;
-    match kept {
-        Kept::Absent => !heard,
-        Kept::There(pair) => heard && commanded && checking::pair_below(q, pair),
+    match share {
+        None => !heard,
+        Some(pair) => heard && commanded && checking::pair_below(q, pair),
     }
 }
 
-fn shares_keep(q: u16, commanded: bool, heard: Marks, shares: [Keep; 10]) -> bool
+fn shares_keep(q: u16, commanded: bool, heard: Marks, shares: [Option<Pair>; 10]) -> bool
     ensures { result ≡ shares_keep q commanded heard shares }
 {
     let mut m: usize = 0;
@@ -149,8 +148,8 @@ pub fn recovery_keeps(q: u16, x: Record) -> bool
     let recovered = x.recovered;
     let u = x.setup;
     let n = record_reading::count_shares(shares);
-    let given = record_reading::is_there(recovered);
-    (!progress.commanded || record_reading::is_done(completion))
+    let given = recovered.is_some();
+    (!progress.commanded || completion.is_some())
         && shares_keep(q, progress.commanded, heard, shares)
         && n <= u.k
         && given == (n == u.k)
@@ -227,7 +226,7 @@ fn sender_zero(x: Record, m: usize) -> bool
         return false;
     }
     let share = x.shares[m];
-    !record_reading::is_there(share)
+    !share.is_some()
 }
 
 // Of each sender above n.

@@ -2,53 +2,48 @@
 ghost use Rattle.std.specs.Prelude.{◌≡◌};
 ghost use Rattle.rules.specs.Record.{zero_slot, new_record, zero_record};
 
-use rules::{
-    Completion, Element, Keep, Kept, Marks, Place, Point, Progress, Record, Row, SetUp, Slot,
-};
+use rules::{Element, Marks, Place, Point, Progress, Record, SetUp, Slot};
 
+const NOBODY: Marks = Marks { at: [false; 10] };
+
+#[tactic(auto, unfolding(rules::specs::Record::zero_slot))]
 fn zero_slot() -> Slot
     ensures { result ≡ zero_slot }
 {
-    let row = Row {
-        at: [Element(0); 8],
-    };
     let silent = Place {
         point: Point::Silent,
     };
-    let none = Marks { at: [false; 10] };
-    let nothing = Keep { kept: Kept::Absent };
     Slot {
         used: false,
-        rows: [row; 8],
+        rows: [[Element(0); 8]; 8],
         places: [silent; 10],
-        echoed: none,
-        readied: none,
-        pair: nothing,
+        echoed: NOBODY,
+        readied: NOBODY,
+        pair: None,
     }
 }
 
 // With these set-up numbers, whatever they are.
+#[tactic(auto, unfolding(rules::specs::Record::new_record))]
 pub fn new_record(u: SetUp) -> Record
     ensures { result ≡ new_record u }
 {
-    let slot = zero_slot();
-    let none = Marks { at: [false; 10] };
-    let nothing = Keep { kept: Kept::Absent };
     Record {
         setup: u,
-        slots: [slot; 20],
-        heard: [none; 4],
+        slots: [zero_slot(); 20],
+        heard: [NOBODY; 4],
         progress: Progress {
             dealt: false,
-            completion: Completion::NotYet,
+            completion: None,
             commanded: false,
         },
-        shares: [nothing; 10],
-        recovered: nothing,
+        shares: [None; 10],
+        recovered: None,
     }
 }
 
 // Every later call refuses it.
+#[tactic(auto, unfolding(rules::specs::Record::zero_record))]
 pub fn zero_record() -> Record
     ensures { result ≡ zero_record }
 {

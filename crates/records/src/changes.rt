@@ -19,10 +19,7 @@ ghost use Rattle.std.specs.Prelude.{◌<◌};
 
 use crate::saying;
 use crate::saying::{Change, at};
-use rules::{
-    Completion, Element, Exponent, Four, Keep, Kept, Marks, Pair, Place, Point, Progress, Record,
-    SetUp, Slot,
-};
+use rules::{Element, Exponent, Four, Marks, Pair, Place, Point, Progress, Record, SetUp, Slot};
 
 fn narrow(number: usize) -> u32 {
     if 4_294_967_295 < number {
@@ -69,20 +66,18 @@ fn marks(change: Change, first: usize) -> Marks {
 }
 
 // The pair from number `first` of the change on.
-fn keep(change: Change, first: usize) -> Keep
+fn keep(change: Change, first: usize) -> Option<Pair>
     requires { first < 6 }
 {
     if change.count <= first {
-        return Keep { kept: Kept::Absent };
+        return None;
     }
     let a = short(change.numbers[first]);
     let b = short(change.numbers[first + 1]);
-    Keep {
-        kept: Kept::There(Pair {
+    Some(Pair {
             first: Exponent(a),
             second: Exponent(b),
-        }),
-    }
+        })
 }
 
 fn place(change: Change) -> Place {
@@ -113,9 +108,9 @@ fn progress(old: Progress, change: Change) -> Progress {
         b'c' => commanded = number == 1,
         _ => {
             completion = if change.count == 0 {
-                Completion::NotYet
+                None
             } else {
-                Completion::With(number)
+                Some(number)
             };
         }
     }

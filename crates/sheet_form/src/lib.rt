@@ -2,21 +2,10 @@
 #![tactic(auto)]
 
 ghost use Rattle.std.specs.Prelude.{◌≡◌, true, ◌<◌};
-ghost use Rattle.rules.specs.Sheet.{
-  sheet_set_up,
-  matrix_place,
-  sheet_matrix,
-  boxes_place,
-  next_line,
-  said_at,
-  sheet_shares,
-  first_line_keeps,
-  box_line_keeps,
-  rest_keeps,
-};
+ghost use Rattle.rules.specs.Sheet.{sheet_set_up, matrix_place, sheet_matrix, boxes_place, next_line, said_at, sheet_shares, first_line_keeps, box_line_keeps, rest_keeps};
 ghost use Rattle.sheet_form.specs.Reading.{FirstLine, Entries, Whole, sheet_row};
 
-use rules::{Element, Exponent, Keep, Kept, Pair, SetUp};
+use rules::{Element, Exponent, Pair, SetUp};
 
 // A sheet has at most so many bytes.
 pub const BYTES: usize = 4_096;
@@ -83,7 +72,7 @@ fn box_line_keeps(b: &[u8], i: usize, m: usize) -> bool
 // What a box says, and where the line behind its line starts.
 #[derive(Clone, Copy)]
 struct Line {
-    said: Keep,
+    said: Option<Pair>,
     next: usize,
 }
 
@@ -94,7 +83,7 @@ fn line_at(b: &[u8], i: usize, m: usize) -> Line
 {
     let says = text::read::digits_end(b, i) + 1;
     if text::read::word_at(b, says, b"silent\n") {
-        let said = Keep { kept: Kept::Absent };
+        let said = None;
         let next = says + 7;
         return Line { said, next };
     }
@@ -102,9 +91,7 @@ fn line_at(b: &[u8], i: usize, m: usize) -> Line
     let second = Exponent(text::read::number_at(b, says, 2, 1));
     let next = text::read::number_place(b, says, 2, 2);
     let pair = Pair { first, second };
-    let said = Keep {
-        kept: Kept::There(pair),
-    };
+    let said = Some(pair);
     Line { said, next }
 }
 
@@ -180,11 +167,11 @@ pub fn matrix(b: &[u8], k: usize) -> [[Element; 8]; 8]
 }
 
 // What boxes 1 to n say, once all has passed; box 1's stands at 0.
-pub fn shares(b: &[u8], n: usize, k: usize) -> [Keep; 10]
+pub fn shares(b: &[u8], n: usize, k: usize) -> [Option<Pair>; 10]
     requires { Whole b.now n k }
     ensures { result ≡ sheet_shares b.now (boxes_place b.now k) n }
 {
-    let nothing = Keep { kept: Kept::Absent };
+    let nothing = None;
     let mut said = [nothing; SetUp::BOXES];
     let mut i = boxes_place(b, k);
     let mut m: usize = 0;

@@ -6,7 +6,7 @@ ghost use Rattle.rules.specs.Sheet.{verdict_text, box_lines, no_secret_line, las
 ghost use Rattle.text.specs.Puts.{Puts, Writes};
 ghost use Rattle.sheet_verdicts.specs.Lines.{Printable, Recoverable, box_line, boxes_text, secret_text};
 
-use rules::{Element, Group, Keep, Pair, Verdict};
+use rules::{Element, Group, Pair, Verdict};
 
 // A word and a number behind it.
 fn put_numbered(page: &mut [u8], at: usize, word: &[u8], x: u16) -> usize
@@ -48,7 +48,7 @@ fn put_box_lines(
     k: usize,
     c: [[Element; 8]; 8],
     n: usize,
-    shares: [Keep; 10],
+    shares: [Option<Pair>; 10],
 ) -> usize
     requires { Printable group k c n page.old }
     ensures { Puts page.old 0 (box_lines group k c n shares) 200 result page.new }
@@ -104,7 +104,7 @@ fn put_no_secret(page: &mut [u8], at: usize, v: u16, k: u16) -> usize
     text::write::put_word(page, next, b"\n")
 }
 
-fn put_last_line(page: &mut [u8], at: usize, q: u16, k: usize, verified: [Keep; 10]) -> usize
+fn put_last_line(page: &mut [u8], at: usize, q: u16, k: usize, verified: [Option<Pair>; 10]) -> usize
     requires { Recoverable q k at page.old }
     ensures { Puts page.old at (last_line q k (share_points verified)) 72 result page.new }
 {
@@ -125,7 +125,7 @@ pub fn print_lines(
     k: usize,
     c: [[Element; 8]; 8],
     n: usize,
-    shares: [Keep; 10],
+    shares: [Option<Pair>; 10],
 ) -> usize
     requires { Printable group k c n page.old }
     ensures { Writes page.old (sheet_lines group k c n shares) result page.new }

@@ -5,7 +5,7 @@ ghost use Rattle.rules.specs.Sheet.{verdict, verified_shares};
 ghost use Rattle.checking.specs.Equations.{Checkable};
 ghost use Rattle.sheet_verdicts.specs.Verdicts.{verified_keep};
 
-use rules::{Element, Group, Keep, Kept, Pair, SetUp, Verdict};
+use rules::{Element, Group, Pair, SetUp, Verdict};
 
 fn on_pair(group: Group, k: usize, c: [[Element; 8]; 8], m: u16, pair: Pair) -> Verdict
     requires { Checkable group k c }
@@ -21,26 +21,25 @@ fn on_pair(group: Group, k: usize, c: [[Element; 8]; 8], m: u16, pair: Pair) -> 
 }
 
 // On what box m says.
-pub fn on(group: Group, k: usize, c: [[Element; 8]; 8], m: u16, keep: Keep) -> Verdict
+pub fn on(group: Group, k: usize, c: [[Element; 8]; 8], m: u16, keep: Option<Pair>) -> Verdict
     requires { Checkable group k c }
-    ensures { result ≡ verdict group k c m keep.kept }
+    ensures { result ≡ verdict group k c m keep }
 {
-    let kept = keep.kept;
-    match kept {
-        Kept::Absent => Verdict::Silent,
-        Kept::There(pair) => on_pair(group, k, c, m, pair),
+    match keep {
+        None => Verdict::Silent,
+        Some(pair) => on_pair(group, k, c, m, pair),
     }
 }
 
-fn if_verified(group: Group, k: usize, c: [[Element; 8]; 8], m: u16, keep: Keep) -> Keep
+fn if_verified(group: Group, k: usize, c: [[Element; 8]; 8], m: u16, keep: Option<Pair>) -> Option<Pair>
     requires { Checkable group k c }
-    ensures { result ≡ verified_keep group k c m keep.kept }
+    ensures { result ≡ verified_keep group k c m keep }
 {
     let verdict = on(group, k, c, m, keep);
     match verdict {
-        Verdict::Silent => Keep { kept: Kept::Absent },
+        Verdict::Silent => None,
         Verdict::Verified => keep,
-        Verdict::Refused(_) => Keep { kept: Kept::Absent },
+        Verdict::Refused(_) => None,
     }
 }
 
@@ -50,12 +49,12 @@ pub fn verified_shares(
     k: usize,
     c: [[Element; 8]; 8],
     n: usize,
-    shares: [Keep; 10],
-) -> [Keep; 10]
+    shares: [Option<Pair>; 10],
+) -> [Option<Pair>; 10]
     requires { Checkable group k c × (n ≤ 10) }
     ensures { result ≡ verified_shares group k c n shares }
 {
-    let nothing = Keep { kept: Kept::Absent };
+    let nothing = None;
     let mut made = [nothing; SetUp::BOXES];
     let mut m: usize = 0;
     let mut number: u16 = 1;
