@@ -9,7 +9,7 @@ use Prim.Native.Nat.{ℕ, zero, suc, ◌+◌, ◌-◌, ◌*◌, ◌<◌, ◌≤�
 use Rattle.std.proofs.Common.{le_of_suc-le-suc, not-suc-le-zero, eq-or-lt_of_le, add-one, inl, inr, ◌∙◌, get_or-set_same, get_or-set_other}
 use Rattle.std.proofs.Math.Decide.{ℕ_discrete, dec_lt}
 use native.Mathlib.Omega.{arith}
-use Rattle.std.specs.Prelude.{Bool, List, ◌⊎◌, ◌≡◌, length, get_or, set}
+use Rattle.std.specs.Prelude.{Bool, Option, Some, None, ltb, List, ◌⊎◌, ◌≡◌, length, get_or, set}
 use Rattle.std.proofs.Math.Bool.{true, false}
 use Rattle.std.proofs.Math.Logic.{⊎_elim}
 use Rattle.std.proofs.Math.Path.{refl, sym, ap, ap₂}
@@ -29,6 +29,10 @@ any_below (suc n) p = p n or any_below n p
 unfoldable pub first_from : ℕ → ℕ → (ℕ → Bool) → ℕ
 first_from zero i p = i
 first_from (suc n) i p = let r = first_from n (i + 1) p in pick (p i) i r
+
+-- the lowest index below n that passes p, if there is one
+abbrev pub found : ℕ → (ℕ → Bool) → Option ℕ
+found n p = pick (ltb (first_from n 0 p) n) (Some (first_from n 0 p)) None
 
 -- how many indices below n pass p
 unfoldable pub count_below : ℕ → (ℕ → Bool) → ℕ

@@ -17,18 +17,18 @@ use Rattle.std.proofs.lemmas.List.FromFn.{length-range_with_len, get_or-range_wi
 use Rattle.std.specs.Fn.{Called, CalledAt}
 use Rattle.std.specs.Iterator.{YieldsThen}
 use Rattle.std.specs.List.{FoldsTo, find}
-use Rattle.std.specs.Option.{MatchOption, option_map}
+use Rattle.std.specs.Option.{MatchOption, option_map, unwrap_or}
 use Rattle.std.specs.declared.ops.Range.{Range}
 use Rattle.std.specs.declared.slice.Iter.{Iter}
 use Rattle.std.specs.Slice.Iter.{iter_rest}
-use borrow.Author.Tests.{lt-ltb, le-ltb}
+use borrow.Author.Tests.{lt-ltb, le-ltb, ltb-false}
 use Rattle.std.proofs.iter.Yields.{nat_range_steps, fronts}
 use Rattle.std.proofs.lemmas.Iterator.{YieldsList-from_range, YieldsList-from_slice}
 use Rattle.std.proofs.lemmas.Iterator.Search.{all_from_yields_List, any_from_yields_List, position_from_yields_List, find_from_yields_List}
 use denote.Param.Members.{Mut}
 use denote.Ref.{Bor}
 use Rattle.folds.specs.Tests.{◌and◌, ◌or◌, pick}
-use Rattle.folds.specs.Below.{all_below, any_below, first_from, count_below, all_below_same, any_below_same, count_below_same, first_from_same}
+use Rattle.folds.specs.Below.{all_below, any_below, first_from, count_below, found, all_below_same, any_below_same, count_below_same, first_from_same, first_from_le}
 
 -- ---- from the front
 
@@ -149,9 +149,6 @@ module _ (p : ℕ → Bool) (n : ℕ) where
 
 -- ---- the lowest, where there is one
 
-abbrev pub found : ℕ → (ℕ → Bool) → Option ℕ
-found n p = pick (ltb (first_from n 0 p) n) (Some (first_from n 0 p)) None
-
 find_from : (p : ℕ → Bool) (n a : ℕ) → find p (range_with_len a n) ≡ pick (ltb (first_from n a p) (n + a)) (Some (first_from n a p)) None
 unfolding first_from
 find_from p zero a = let e : ltb a (0 + a) ≡ false = le-ltb a (0 + a) (omega arith) in rw e
@@ -214,3 +211,27 @@ module _ {A F : Type 0} {s : Iter A} (test : A → Bool) (d : A) (xs : List A) (
   position_of_slice {r = r} ran source closure =
       position_from_yields_List test u f r ran (YieldsList-from_slice xs source) closure
       ∙ rw (first_places test d xs) (picked_is_cond (ltb (first_from (length xs) 0 (at test d xs)) (length xs)) (Some (first_from (length xs) 0 (at test d xs))) None)
+
+-- ---- what was found
+
+module _ (n : ℕ) (p : ℕ → Bool) where
+  pub found_some : {i : ℕ} → found n p ≡ Some i → (ltb (first_from n 0 p) n ≡ true) × (first_from n 0 p ≡ i)
+  found_some {i} = go (ltb (first_from n 0 p) n) refl
+    where
+      go : (b : Bool) → ltb (first_from n 0 p) n ≡ b → pick b (Some (first_from n 0 p)) None ≡ Some i → (ltb (first_from n 0 p) n ≡ true) × (first_from n 0 p ≡ i)
+      go true e h = (e, cc)
+      go false e h = cc
+
+  pub found_none : found n p ≡ None → ltb (first_from n 0 p) n ≡ false
+  found_none = go (ltb (first_from n 0 p) n) refl
+    where
+      go : (b : Bool) → ltb (first_from n 0 p) n ≡ b → pick b (Some (first_from n 0 p)) None ≡ None → ltb (first_from n 0 p) n ≡ false
+      go true e h = cc
+      go false e h = e
+
+  pub found_or : unwrap_or (found n p) n ≡ first_from n 0 p
+  found_or = go (ltb (first_from n 0 p) n) refl
+    where
+      go : (b : Bool) → ltb (first_from n 0 p) n ≡ b → unwrap_or (pick b (Some (first_from n 0 p)) None) n ≡ first_from n 0 p
+      go true e = refl
+      go false e = let h = first_from_le p n 0 in let g = ltb-false (first_from n 0 p) n e in omega arith

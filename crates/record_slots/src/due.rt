@@ -3,15 +3,17 @@ ghost use Rattle.std.specs.Prelude.{◌≡◌};
 ghost use Rattle.rules.specs.Steps.{ready_due, completion_due};
 ghost use Rattle.rules.specs.Laws.Numbers.{Ranges};
 
+use record_reading::count_marks;
 use rules::{SetUp, Side, Slot};
 
 // Ready is sent now.
+#[tactic(auto, unfolding(rules::specs::Record::count_e, rules::specs::Record::count_r, record_reading::specs::Slots::count_marks))]
 pub fn ready_due(u: SetUp, side: Side, slot: Slot) -> bool
     requires { Ranges u }
     ensures { result ≡ ready_due u side slot }
 {
-    let echoes = record_reading::count_marks(slot.echoed);
-    let readies = record_reading::count_marks(slot.readied);
+    let echoes = count_marks(slot.echoed);
+    let readies = count_marks(slot.readied);
     let quorum = u.echo_quorum();
     match side {
         Side::ByEcho => echoes == quorum && readies < u.k,
@@ -20,12 +22,13 @@ pub fn ready_due(u: SetUp, side: Side, slot: Slot) -> bool
 }
 
 // Else the box completes now.
+#[tactic(auto, unfolding(rules::specs::Record::count_r, record_reading::specs::Slots::count_marks))]
 pub fn completion_due(u: SetUp, side: Side, slot: Slot) -> bool
     requires { Ranges u }
     ensures { result ≡ completion_due u side slot }
 {
     match side {
         Side::ByEcho => false,
-        Side::ByReady => record_reading::count_marks(slot.readied) == u.k + u.t,
+        Side::ByReady => count_marks(slot.readied) == u.k + u.t,
     }
 }

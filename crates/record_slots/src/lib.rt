@@ -3,92 +3,59 @@
 
 pub mod due;
 
-ghost use Rattle.std.specs.Prelude.{◌≡◌, map, ◌≤◌, ◌<◌};
+ghost use Rattle.std.specs.Prelude.{◌≡◌, ◌≤◌, ◌<◌};
+ghost use Rattle.folds.specs.Below.{found};
 ghost use Rattle.rules.specs.Steps.{opened, keeping, slot_for, taken};
-ghost use Rattle.record_slots.specs.Found.{own_in, free_in, held_by};
+ghost use Rattle.record_slots.specs.Found.{has_own, is_free, held_by};
 
 use rules::{Element, Four, Marks, Pair, Place, Point, Record, SetUp, Side, Slot};
 
-// The place of a matrix in use; 20 where there is none.
-fn own_slot(slots: [Slot; 20], k: usize, c: [[Element; 8]; 8]) -> usize
+// The place of a matrix in use.
+fn own_slot(slots: &[Slot; 20], k: usize, c: [[Element; 8]; 8]) -> Option<usize>
     requires { k ≤ 8 }
-    ensures { result ≡ own_in slots k c }
+    ensures { result ≡ found 20 (has_own slots.now k c) }
 {
-    let mut s: usize = 0;
-    while s < SetUp::SLOTS {
-        let slot = slots[s];
-        if record_reading::has_matrix(k, slot, c) {
-            return s;
-        }
-        s += 1;
-    }
-    SetUp::SLOTS
+    slots
+        .iter()
+        .position(|slot| record_reading::has_matrix(k, *slot, c))
 }
 
-fn free_slot(slots: [Slot; 20]) -> usize
-    ensures { result ≡ free_in slots }
+fn free_slot(slots: &[Slot; 20]) -> Option<usize>
+    ensures { result ≡ found 20 (is_free slots.now) }
 {
-    let mut s: usize = 0;
-    while s < SetUp::SLOTS {
-        let slot = slots[s];
-        if !slot.used {
-            return s;
-        }
-        s += 1;
-    }
-    SetUp::SLOTS
+    slots.iter().position(|slot| !slot.used)
 }
 
-// The place of the matrix: its own, or the lowest unused; 20 where there is neither.
+// The place of the matrix: its own, or the lowest unused; 20 where there is neither, as `Steps.slot_for` has it.
 pub fn slot_for(x: Record, c: [[Element; 8]; 8]) -> usize
     requires { x.setup.k ≤ 8 }
     ensures { result ≡ slot_for x c }
 {
-    let u = x.setup;
-    let slots = x.slots;
-    let own = own_slot(slots, u.k as usize, c);
-    if own < SetUp::SLOTS {
-        return own;
+    match own_slot(&x.slots, x.setup.k as usize, c) {
+        Some(own) => own,
+        None => free_slot(&x.slots).unwrap_or(SetUp::SLOTS),
     }
-    free_slot(slots)
-}
-
-fn rows_of(c: [[Element; 8]; 8]) -> [Row; 8]
-    ensures { result ≡ map row_of c }
-{
-    let zero = Row {
-        at: [Element(0); 8],
-    };
-    let mut rows = [zero; 8];
-    let mut j: usize = 0;
-    while j < SetUp::WIDTH {
-        let at = c[j];
-        rows[j] = Row { at };
-        j += 1;
-    }
-    rows
 }
 
 // As it stands if it is in use, else a new one for this matrix.
+#[tactic(auto, unfolding(rules::specs::Steps::opened, rules::specs::Record::zero_slot))]
 pub fn opened_for(c: [[Element; 8]; 8], slot: Slot) -> Slot
     ensures { result ≡ opened c slot }
 {
     if slot.used {
         return slot;
     }
-    let rows = rows_of(c);
     let silent = Place {
         point: Point::Silent,
     };
     let none = Marks { at: [false; 10] };
-    let nothing = None;
     Slot {
         used: true,
-        rows,
+        rows: c,
         places: [silent; 10],
         echoed: none,
         readied: none,
-        pair: nothing,
+        pair: None,
     }
 }
 
@@ -96,8 +63,7 @@ pub fn opened_for(c: [[Element; 8]; 8], slot: Slot) -> Slot
 fn held(place: Place, four: Four) -> Place
     ensures { result ≡ held_by place four }
 {
-    let point = place.point;
-    match point {
+    match place.point {
         Point::Silent => Place {
             point: Point::Held(four),
         },
@@ -108,36 +74,23 @@ fn held(place: Place, four: Four) -> Place
 }
 
 // A checked echo or ready of sender m + 1: its point, and its mark.
-pub fn with_point(slot: Slot, side: Side, m: usize, four: Four) -> Slot
+pub fn with_point(mut slot: Slot, side: Side, m: usize, four: Four) -> Slot
     requires { m < 10 }
     ensures { result ≡ taken side slot m four }
 {
-    let old = slot.places[m];
-    let place = held(old, four);
-    let mut made = slot;
-    made.places[m] = place;
+    slot.places[m] = held(slot.places[m], four);
     match side {
-        Side::ByEcho => {
-            let mut marks = slot.echoed;
-            marks.at[m] = true;
-            made.echoed = marks;
-            made
-        }
-        Side::ByReady => {
-            let mut marks = slot.readied;
-            marks.at[m] = true;
-            made.readied = marks;
-            made
-        }
+        Side::ByEcho => slot.echoed.at[m] = true,
+        Side::ByReady => slot.readied.at[m] = true,
     }
+    slot
 }
 
 // The pair is kept from now on.
-pub fn with_pair(slot: Slot, pair: Pair) -> Slot
+#[tactic(auto, unfolding(rules::specs::Steps::keeping))]
+pub fn with_pair(mut slot: Slot, pair: Pair) -> Slot
     ensures { result ≡ keeping slot pair }
 {
-    let keep = Some(pair);
-    let mut made = slot;
-    made.pair = keep;
-    made
+    slot.pair = Some(pair);
+    slot
 }
