@@ -47,7 +47,7 @@ fn no_pair() -> Pair
     }
 }
 
-fn pair_told(kept: Kept) -> Pair
+fn pair_told(kept: Option<Pair>) -> Pair
     ensures { result ≡ pair_told kept }
 {
     match kept {

@@ -34,8 +34,9 @@ unfoldable pub slot_keeps : Group → SetUp → Slot → Bool
 slot_keeps G u slot =
     slot_below G.q slot and passes_in G u.k slot and places_keep slot and use_keeps slot and pair_keeps u slot and entries_zero u.k slot
 
-unfoldable pub zero_from : ℕ → List Element → Bool
-zero_from column at = all_below 8 (λ l. ltb l column or eqb (get_or at l (element 0)).0 0)
+-- a row is zero outside its first k columns, or wholly where its row or its matrix is not in use
+unfoldable pub row_zero : Bool → ℕ → List Element → Bool
+row_zero used k row = all_below 8 (λ l. (used and ltb l k) or eqb (get_or row l (element 0)).0 0)
 
 -- slot s is in use
 pub record UsedAt (k : ℕ) (slots : List Slot) (s : ℕ) : Type 0 where

@@ -4,8 +4,9 @@
 ghost use Rattle.std.specs.Prelude.{◌≡◌, ◌≤◌, ◌<◌};
 ghost use Rattle.rules.specs.Record.{slot_below, point_below, kept_below, places_keep, use_keeps, pair_keeps, entries_zero};
 ghost use Rattle.rules.specs.Laws.Numbers.{Sizes};
-ghost use Rattle.record_clauses.specs.Clauses.{UsedAt, differ_from, all_differ, passes_in, any_held, slot_keeps, every_slot, zero_from};
+ghost use Rattle.record_clauses.specs.Clauses.{UsedAt, differ_from, all_differ, passes_in, any_held, row_zero, slot_keeps, every_slot};
 
+use record_reading::{count_marks, is_held};
 use rules::{Element, Group, Pair, Place, Point, SetUp, Slot};
 
 // ---- stored exponents are below q
@@ -13,8 +14,7 @@ use rules::{Element, Group, Pair, Place, Point, SetUp, Slot};
 fn point_below(q: u16, place: Place) -> bool
     ensures { result ≡ point_below q place.point }
 {
-    let point = place.point;
-    match point {
+    match place.point {
         Point::Silent => true,
         Point::Held(four) => checking::four_below(q, four),
     }
@@ -30,70 +30,36 @@ pub fn kept_below(q: u16, keep: Option<Pair>) -> bool
     }
 }
 
+#[tactic(auto, unfolding(rules::specs::Record::slot_below))]
 fn slot_below(q: u16, slot: Slot) -> bool
     ensures { result ≡ slot_below q slot }
 {
-    let mut m: usize = 0;
-    while m < SetUp::BOXES {
-        let place = slot.places[m];
-        if !point_below(q, place) {
-            return false;
-        }
-        m += 1;
-    }
-    let pair = slot.pair;
-    kept_below(q, pair)
+    slot.places.iter().all(|place| point_below(q, *place)) && kept_below(q, slot.pair)
 }
 
 // ---- matrices in use are different and would pass refusal 8
 
 // The matrix of slot s, in use, is none of those in use below it.
-fn differs_below(k: usize, slots: [Slot; 20], s: usize) -> bool
-    requires { UsedAt k slots s }
-    ensures { result ≡ differ_from k slots s }
+fn differs_below(k: usize, slots: &[Slot; 20], s: usize) -> bool
+    requires { UsedAt k slots.now s }
+    ensures { result ≡ differ_from k slots.now s }
 {
-    let slot = slots[s];
-    let rows = slot.rows;
-    let c = rows;
-    let mut below: usize = 0;
-    while below < s {
-        let other = slots[below];
-        if record_reading::has_matrix(k, other, c) {
-            return false;
-        }
-        below += 1;
-    }
-    true
+    (0..s).all(|below| !record_reading::has_matrix(k, slots[below], slots[s].rows))
 }
 
-// Use is tested first, since handing the slots over copies them.
 pub fn matrices_differ(k: usize, slots: [Slot; 20]) -> bool
     requires { k ≤ 8 }
     ensures { result ≡ all_differ k slots }
 {
-    let mut s: usize = 0;
-    while s < SetUp::SLOTS {
-        let slot = slots[s];
-        if slot.used {
-            if !differs_below(k, slots, s) {
-                return false;
-            }
-        }
-        s += 1;
-    }
-    true
+    (0..SetUp::SLOTS).all(|s| !slots[s].used || differs_below(k, &slots, s))
 }
 
+#[tactic(auto, unfolding(crate::specs::Clauses::passes_in, rules::specs::Record::matrix_of))]
 fn passes_in(group: Group, k: usize, slot: Slot) -> bool
     requires { (0 < group.p) × (k ≤ 8) }
     ensures { result ≡ passes_in group k slot }
 {
-    if !slot.used {
-        return true;
-    }
-    let rows = slot.rows;
-    let c = rows;
-    checking::matrix_passes(group, k, c)
+    !slot.used || checking::matrix_passes(group, k, slot.rows)
 }
 
 // ---- a place is held exactly if its sender is marked for either
@@ -101,18 +67,7 @@ fn passes_in(group: Group, k: usize, slot: Slot) -> bool
 fn places_keep(slot: Slot) -> bool
     ensures { result ≡ places_keep slot }
 {
-    let echoed = slot.echoed;
-    let readied = slot.readied;
-    let mut m: usize = 0;
-    while m < SetUp::BOXES {
-        let place = slot.places[m];
-        let marked = echoed.at[m] || readied.at[m];
-        if record_reading::is_held(place) != marked {
-            return false;
-        }
-        m += 1;
-    }
-    true
+    (0..SetUp::BOXES).all(|m| is_held(slot.places[m]) == (slot.echoed.at[m] || slot.readied.at[m]))
 }
 
 // ---- a matrix is in use exactly if some place of it is held
@@ -120,17 +75,10 @@ fn places_keep(slot: Slot) -> bool
 fn any_held(slot: Slot) -> bool
     ensures { result ≡ any_held slot }
 {
-    let mut m: usize = 0;
-    while m < SetUp::BOXES {
-        let place = slot.places[m];
-        if record_reading::is_held(place) {
-            return true;
-        }
-        m += 1;
-    }
-    false
+    slot.places.iter().any(|place| is_held(*place))
 }
 
+#[tactic(auto, unfolding(rules::specs::Record::use_keeps, crate::specs::Clauses::any_held))]
 fn use_keeps(slot: Slot) -> bool
     ensures { result ≡ use_keeps slot }
 {
@@ -139,53 +87,33 @@ fn use_keeps(slot: Slot) -> bool
 
 // ---- a kept pair is there exactly if e ≥ E or r ≥ k
 
+#[tactic(auto, unfolding(rules::specs::Record::pair_keeps, rules::specs::Record::count_e, rules::specs::Record::count_r, record_reading::specs::Slots::count_marks))]
 fn pair_keeps(u: SetUp, slot: Slot) -> bool
     requires { Sizes u.n u.t u.k }
     ensures { result ≡ pair_keeps u slot }
 {
-    let echoed = slot.echoed;
-    let readied = slot.readied;
-    let pair = slot.pair;
-    let enough = u.echo_quorum() <= record_reading::count_marks(echoed)
-        || u.k <= record_reading::count_marks(readied);
-    pair.is_some() == enough
+    let enough = u.echo_quorum() <= count_marks(slot.echoed) || u.k <= count_marks(slot.readied);
+    slot.pair.is_some() == enough
 }
 
 // ---- entries of matrices not in use, or from k on, are zero
 
-// Nothing but zeros from this column on.
-fn zero_from(column: usize, at: [Element; 8]) -> bool
-    ensures { result ≡ zero_from column at }
-{
-    let mut l = column;
-    while l < SetUp::WIDTH {
-        let e = at[l];
-        if e.0 != 0 {
-            return false;
-        }
-        l += 1;
-    }
-    true
-}
-
 fn entries_zero(k: usize, slot: Slot) -> bool
     ensures { result ≡ entries_zero k slot }
 {
-    let mut j: usize = 0;
-    while j < SetUp::WIDTH {
-        let row = slot.rows[j];
-        let at = row.at;
-        let column = if slot.used && j < k { k } else { 0 };
-        if !zero_from(column, at) {
-            return false;
-        }
-        j += 1;
-    }
-    true
+    (0..SetUp::WIDTH).all(|j| row_zero(slot.used && j < k, k, slot.rows[j]))
+}
+
+// Nothing but zeros from column k on, or in a row that is not in use from the first.
+fn row_zero(used: bool, k: usize, row: [Element; 8]) -> bool
+    ensures { result ≡ row_zero used k row }
+{
+    (0..SetUp::WIDTH).all(|l| used && l < k || row[l] == Element(0))
 }
 
 // ---- all clauses of one slot, and of every slot
 
+#[tactic(auto, unfolding(crate::specs::Clauses::slot_keeps))]
 fn slot_keeps(group: Group, u: SetUp, slot: Slot) -> bool
     requires { (0 < group.p) × Sizes u.n u.t u.k }
     ensures { result ≡ slot_keeps group u slot }
@@ -204,13 +132,5 @@ pub fn slots_keep(group: Group, u: SetUp, slots: [Slot; 20]) -> bool
     requires { (0 < group.p) × Sizes u.n u.t u.k }
     ensures { result ≡ every_slot slots (slot_keeps group u) }
 {
-    let mut s: usize = 0;
-    while s < SetUp::SLOTS {
-        let slot = slots[s];
-        if !slot_keeps(group, u, slot) {
-            return false;
-        }
-        s += 1;
-    }
-    true
+    slots.iter().all(|slot| slot_keeps(group, u, *slot))
 }
