@@ -8,11 +8,11 @@ ghost use Rattle.rules.specs.Messages.{side_tag};
 // ---- Numbers
 
 // An exponent counts modulo q.
-#[derive(Clone, Copy)]
+#[derive(Clone, Copy, PartialEq, Eq)]
 pub struct Exponent(pub u16);
 
 // A group element counts modulo p.
-#[derive(Clone, Copy)]
+#[derive(Clone, Copy, PartialEq, Eq)]
 pub struct Element(pub u16);
 
 // A row of the table of groups.
