@@ -7,14 +7,11 @@ use Rattle.checking.proofs.polynomial_check.Goals as goal
 pub returns-then-all : goal.returns-then-all
 unfolding polynomial_check
 returns-then-all c =
-    let a = c.args in
-    let first = all_of_range (l_equation a.group a.k a.c a.i a.all) a.k _ c.all.ensures.ran refl (λ x b q k. search (rules, tests)) in
-    let second = all_of_range (j_equation a.group a.k a.c a.i a.all) a.k _ c.all-then-all.ensures.ran refl (λ x b q k. search (rules, tests)) in
-    rw (sym first ∙ c.if-all.true) second
+    rw (sym (all_of_range (l_equation c.args.group c.args.k c.args.c c.args.i c.args.all) c.args.k _ c.all.ensures.ran refl (λ x b q k. search (rules, tests))) ∙ c.if-all.true)
+    (all_of_range (j_equation c.args.group c.args.k c.args.c c.args.i c.args.all) c.args.k _ c.all-then-all.ensures.ran refl (λ x b q k. search (rules, tests)))
 
 pub returns-else-all : goal.returns-else-all
 unfolding polynomial_check
 returns-else-all c =
-    let a = c.args in
-    let first = all_of_range (l_equation a.group a.k a.c a.i a.all) a.k _ c.all.ensures.ran refl (λ x b q k. search (rules, tests)) in
-    rw (sym first ∙ c.if-all.false) c.if-all.false
+    rw (sym (all_of_range (l_equation c.args.group c.args.k c.args.c c.args.i c.args.all) c.args.k _ c.all.ensures.ran refl (λ x b q k. search (rules, tests))) ∙ c.if-all.false)
+    c.if-all.false
