@@ -2,10 +2,10 @@
 -- Assumes nothing.
 use mathlib.Core.Bool.{Bool, true, false}
 use mathlib.Core.List.{List, [], map, map-map}
-use mathlib.Core.Path.{◌≡◌, ◌∙◌}
+use mathlib.Core.Path.{◌≡◌, ap, ◌∙◌}
 use Prim.Native.Nat.{ℕ, ◌+◌, ◌≤◌, ◌<◌}
 use native.Mathlib.Omega.{arith}
-use lib.ListN.{length, take, length-take, length-map, get_or-map}
+use lib.ListN.{length, get_or, take, length-take, length-map, get_or-map}
 use Rattle.folds.specs.Runs.{every_nil, every_cons, every_gather_below, every_take, Every}
 use Rattle.rules.specs.declared.Exponent.{Exponent}
 use Rattle.std.specs.Prelude.{Option, Some, None, is_some}
@@ -14,9 +14,9 @@ use Rattle.rules.specs.declared.Place.{Place}
 use Rattle.rules.specs.Record.{share_at}
 use Rattle.rules.specs.Steps.{Said, kept_at, points, share_points, through, pair_from, ready_four}
 use Rattle.interpolation.specs.declared.Points.{Points}
-use Rattle.interpolation.specs.Points.{nobody, said_by}
+use Rattle.interpolation.specs.Points.{nobody, boxes_of, said_by}
 use Rattle.interpolation.specs.Lagrange.{inverse_row, pair_through, four_through, Fit, Sides}
-use Rattle.record_points.specs.Points.{in_array_at, points_of, side, side_kept, side_points, Lowest}
+use Rattle.record_points.specs.Points.{in_array_at, points_of, boxes_in, side, side_kept, side_points, Lowest}
 use Rattle.record_points.proofs.Lists.{said_of, side_points_lem, side_count, side_boxes}
 
 -- ---- what the functions ask
@@ -48,7 +48,10 @@ module _ (q k : ℕ) (asked : Lowest q k) where
         some = omega (arith, asked.order);
         few = few;
         low = λ j l.
-            let at = in_array_at 0 (λ (p : Said Pair). p.box) ps few j l ∙ get_or-map (λ (p : Said Pair). p.box) ps j nobody in
+            let at =
+                ap (λ (b : List ℕ). get_or b j 0) (boxes_in ps)
+                ∙ in_array_at 0 (λ (p : Said Pair). p.box) ps few j l
+                ∙ get_or-map (λ (p : Said Pair). p.box) ps j nobody in
             omega (arith, kept_numbered k keeps j l, asked.order);
       }
 
@@ -90,7 +93,7 @@ module _ (q k : ℕ) (asked : Lowest q k) where
 
     pub sides_ready : (under : List Exponent) (rows columns : Points)
         → rows ≡ points_of (side_points true (take k (points places))) → columns ≡ points_of (side_points false (take k (points places)))
-        → under ≡ inverse_row q rows.count rows.boxes → Sides q rows columns under
+        → under ≡ inverse_row q rows.count (boxes_of rows) → Sides q rows columns under
     sides_ready under rows columns r c u =
         let ps = take k (points places) in
         record {

@@ -3,32 +3,33 @@ ghost use Rattle.std.specs.Prelude.{◌≡◌, [], map, ◌≤◌, ◌<◌, take
 ghost use Rattle.rules.specs.Steps.{points, share_points};
 ghost use Rattle.record_points.specs.Points.{points_of, with_point, considered, side, side_kept, side_points};
 
-use interpolation::Points;
-use rules::{Exponent, Four, Pair, Place, Point, SetUp};
+use interpolation::{Numbered, Points};
+use rules::{Exponent, Four, Keep, Kept, Pair, Place, Point, SetUp};
 
 fn no_points() -> Points
     ensures { result ≡ points_of [] }
 {
+    let zero = Numbered {
+        number: 0,
+        pair: Pair {
+            first: Exponent(0),
+            second: Exponent(0),
+        },
+    };
     Points {
         count: 0,
-        boxes: [0; 8],
-        first: [Exponent(0); 8],
-        second: [Exponent(0); 8],
+        said: [zero; 8],
     }
 }
 
+#[tactic(auto, unfolding(crate::specs::Points::with_point))]
 fn with_point(all: Points, number: u16, pair: Pair) -> Points
     requires { all.count < 8 }
     ensures { result ≡ with_point all number pair }
 {
-    let at = all.count;
-    let first = pair.first;
-    let second = pair.second;
     let mut made = all;
-    made.boxes[at] = number;
-    made.first[at] = first;
-    made.second[at] = second;
-    made.count = at + 1;
+    made.said[all.count] = Numbered { number, pair };
+    made.count += 1;
     made
 }
 

@@ -114,8 +114,7 @@ fn put_last_line(page: &mut [u8], at: usize, q: u16, k: usize, verified: [Option
         return put_no_secret(page, at, count as u16, k as u16);
     }
     let pair = record_points::recovered_from(q, k, verified);
-    let boxes = all.boxes;
-    put_secret(page, at, pair, count, boxes)
+    put_secret(page, at, pair, count, all.said.map(|s| s.number))
 }
 
 // All the lines of a sheet whose matrix has passed, at the front of the page.
