@@ -3,13 +3,14 @@
 // their values. One that writes to every box writes n messages, each directly behind the one before.
 #![tactic(auto)]
 
-ghost use Rattle.std.specs.Prelude.{[], ◌∷◌, ◌++◌, ◌+◌, ◌*◌, ◌<◌, ◌≤◌, length};
-ghost use Rattle.rules.specs.Messages.{two_bytes, matrix_bytes, coefficient_bytes, polynomial_bytes, send, saying, recovery, bytes_of, end_place, to_each};
+ghost use Rattle.std.specs.Prelude.{[], ◌∷◌, ◌++◌, ◌+◌, ◌*◌, ◌<◌, ◌≤◌, length, get_or};
+ghost use Rattle.folds.specs.Runs.{gather};
+ghost use Rattle.rules.specs.Messages.{two_bytes, matrix_bytes, polynomial_bytes, send, saying, recovery, bytes_of, end_place, to_each};
 ghost use Rattle.rules.specs.Matrices.{zero_four};
 ghost use Rattle.rules.specs.Laws.RoundTrip.{SetUpFits};
-ghost use Rattle.message_writing.specs.Written.{head_bytes, row_bytes, opening_bytes, to_box, no_polynomials, Puts, Writes, CanSend};
+ghost use Rattle.message_writing.specs.Written.{head_bytes, opening_bytes, to_box, no_polynomials, Puts, Writes, CanSend};
 
-use rules::{Element, Exponent, Four, Pair, Polynomials, SetUp, Side};
+use rules::{Element, Exponent, Four, Number, Pair, Polynomials, SetUp, Side};
 
 fn put_byte(out: &mut [u8], at: usize, x: u8) -> usize
     requires { at < length out.old }
@@ -24,39 +25,20 @@ fn put_number(out: &mut [u8], at: usize, x: u16) -> usize
     requires { at + 2 ≤ length out.old }
     ensures { Puts at 2 (two_bytes x) out.old out.new result }
 {
-    out[at] = (x / 256 % 256) as u8;
-    out[at + 1] = (x % 256) as u8;
+    out[at..at + 2].copy_from_slice(&x.to_be_bytes());
     at + 2
 }
 
 // ---- parts of a message
 
-// The first k entries of a row.
-fn put_elements(out: &mut [u8], at: usize, row: [Element; 8], k: usize) -> usize
+// The first k numbers of a row.
+fn put_row<T: Number>(out: &mut [u8], at: usize, row: [T; 8], k: usize) -> usize
     requires { (k ≤ 8) × (at + 2 * k ≤ length out.old) }
-    ensures { Puts at (k * 2) (row_bytes k row) out.old out.new result }
+    ensures { Puts at (k * 2) (gather k (λ l. two_bytes (T.value (get_or row l (T.wrap 0))))) out.old out.new result }
 {
-    let mut l: usize = 0;
     let mut next = at;
-    while l < k {
-        let x = row[l];
-        next = put_number(out, next, x.0);
-        l += 1;
-    }
-    next
-}
-
-// The first k coefficients of a polynomial.
-fn put_exponents(out: &mut [u8], at: usize, a: [Exponent; 8], k: usize) -> usize
-    requires { (k ≤ 8) × (at + 2 * k ≤ length out.old) }
-    ensures { Puts at (k * 2) (coefficient_bytes k a) out.old out.new result }
-{
-    let mut l: usize = 0;
-    let mut next = at;
-    while l < k {
-        let x = a[l];
-        next = put_number(out, next, x.0);
-        l += 1;
+    for l in 0..k {
+        next = put_number(out, next, row[l].get());
     }
     next
 }
@@ -66,12 +48,9 @@ fn put_matrix(out: &mut [u8], at: usize, c: [[Element; 8]; 8], k: usize) -> usiz
     requires { (k ≤ 8) × (at + 2 * (k * k) ≤ length out.old) }
     ensures { Puts at (k * (k * 2)) (matrix_bytes k c) out.old out.new result }
 {
-    let mut j: usize = 0;
     let mut next = at;
-    while j < k {
-        let row = c[j];
-        next = put_elements(out, next, row, k);
-        j += 1;
+    for j in 0..k {
+        next = put_row(out, next, c[j], k);
     }
     next
 }
@@ -81,14 +60,10 @@ fn put_polynomials(out: &mut [u8], at: usize, u: SetUp, all: Polynomials) -> usi
     ensures { Puts at (8 * u.k) (polynomial_bytes u all) out.old out.new result }
 {
     let k = u.k as usize;
-    let a = all.a;
-    let a2 = all.a2;
-    let b = all.b;
-    let b2 = all.b2;
-    let second = put_exponents(out, at, a, k);
-    let third = put_exponents(out, second, a2, k);
-    let fourth = put_exponents(out, third, b, k);
-    put_exponents(out, fourth, b2, k)
+    let second = put_row(out, at, all.a, k);
+    let third = put_row(out, second, all.a2, k);
+    let fourth = put_row(out, third, all.b, k);
+    put_row(out, fourth, all.b2, k)
 }
 
 // Two numbers, one behind the other.
@@ -159,11 +134,8 @@ pub fn write_sends(out: &mut [u8], u: SetUp, c: [[Element; 8]; 8], all: [Polynom
 {
     let n = u.n as usize;
     let mut at: usize = 0;
-    let mut j: usize = 0;
-    while j < n {
-        let mine = all[j];
-        at += write_send(&mut out[at..], u, c, mine);
-        j += 1;
+    for j in 0..n {
+        at += write_send(&mut out[at..], u, c, all[j]);
     }
     at
 }
@@ -181,11 +153,8 @@ pub fn write_points(
 {
     let n = u.n as usize;
     let mut at: usize = 0;
-    let mut j: usize = 0;
-    while j < n {
-        let four = fours[j];
-        at += write_point(&mut out[at..], u, side, c, four);
-        j += 1;
+    for j in 0..n {
+        at += write_point(&mut out[at..], u, side, c, fours[j]);
     }
     at
 }
@@ -195,12 +164,9 @@ pub fn write_shares(out: &mut [u8], u: SetUp, pair: Pair) -> usize
     requires { CanSend u out.old }
     ensures { Writes (to_each u (λ j. recovery pair)) out.old out.new result }
 {
-    let n = u.n as usize;
     let mut at: usize = 0;
-    let mut j: usize = 0;
-    while j < n {
+    for _ in 0..u.n {
         at += write_share(&mut out[at..], u, pair);
-        j += 1;
     }
     at
 }
