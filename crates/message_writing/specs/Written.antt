@@ -3,10 +3,11 @@
 -- Assumes nothing.
 use Rattle.std.specs.Prelude.{List, [], ◌∷◌, ◌++◌, ◌≡◌, ℕ, ◌+◌, ◌-◌, ◌*◌, ◌≤◌, length, get_or}
 use Rattle.std.proofs.lemmas.List.Edits.{sets}
+use denote.MutBor.{MutBor}
 use Rattle.rules.specs.declared.Element.{Element}
 use Rattle.rules.specs.declared.Polynomials.{Polynomials}
 use Rattle.rules.specs.declared.SetUp.{SetUp}
-use Rattle.rules.specs.Messages.{two_bytes, matrix_bytes, written}
+use Rattle.rules.specs.Messages.{Message, two_bytes, matrix_bytes, bytes_of, written}
 use Rattle.rules.specs.Laws.RoundTrip.{SetUpFits}
 
 unfoldable pub head_bytes : SetUp → ℕ → ℕ → List ℕ
@@ -32,6 +33,10 @@ pub record Puts (at w : ℕ) (bytes out₀ out : List ℕ) (next : ℕ) : Type 0
 pub record Writes (bytes out₀ out : List ℕ) (count : ℕ) : Type 0 where
   pub counted : count ≡ length bytes
   pub front : out ≡ written bytes out₀
+
+-- each call that left `post` to be true has written message j: in the buffer lent to it, of which `count` bytes
+abbrev pub EachWrites : SetUp → (ℕ → Message) → (MutBor (List ℕ) → ℕ → ℕ → MutBor (List ℕ) → Type 0) → Type 0
+EachWrites u g post = (lent : _) (j count : ℕ) (back : _) → post lent j count back → Writes (bytes_of u (g j)) lent.now back.now count
 
 -- the set-up numbers have room in a message, and a message to each box has in the lent buffer
 pub record CanSend (u : SetUp) (out : List ℕ) : Type 0 where

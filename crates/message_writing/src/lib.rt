@@ -3,12 +3,12 @@
 // their values. One that writes to every box writes n messages, each directly behind the one before.
 #![tactic(auto)]
 
-ghost use Rattle.std.specs.Prelude.{[], ◌∷◌, ◌++◌, ◌+◌, ◌*◌, ◌<◌, ◌≤◌, length, get_or};
+ghost use Rattle.std.specs.Prelude.{[], ◌∷◌, ◌++◌, ℕ, ◌+◌, ◌-◌, ◌*◌, ◌<◌, ◌≤◌, length, get_or};
 ghost use Rattle.folds.specs.Runs.{gather};
-ghost use Rattle.rules.specs.Messages.{two_bytes, matrix_bytes, polynomial_bytes, send, saying, recovery, bytes_of, end_place, to_each};
+ghost use Rattle.rules.specs.Messages.{Message, two_bytes, matrix_bytes, polynomial_bytes, send, saying, recovery, bytes_of, end_place, to_each};
 ghost use Rattle.rules.specs.Matrices.{zero_four};
 ghost use Rattle.rules.specs.Laws.RoundTrip.{SetUpFits};
-ghost use Rattle.message_writing.specs.Written.{head_bytes, opening_bytes, to_box, no_polynomials, Puts, Writes, CanSend};
+ghost use Rattle.message_writing.specs.Written.{head_bytes, opening_bytes, to_box, no_polynomials, Puts, Writes, EachWrites, CanSend};
 
 use rules::{Element, Exponent, Four, Number, Pair, Polynomials, SetUp, Side};
 
@@ -127,17 +127,26 @@ fn write_share(out: &mut [u8], u: SetUp, pair: Pair) -> usize
 
 // ---- to each box
 
+// What `write` writes for each box, one directly behind the other; box 1 is 0 to it. It gets the tail of the buffer.
+fn write_each<F: Fn(&mut [u8], usize) -> usize>(out: &mut [u8], u: SetUp, write: F) -> usize
+    requires can { CanSend u out.old }
+    requires may { (b : _) (j : ℕ) → j < u.n → 199 ≤ length b.now → F.pre write b j }
+    requires short { (b : _) (j r : ℕ) (b' : _) → F.post write b j r b' → r ≤ 199 }
+    ensures { (g : ℕ → Message) → EachWrites u g (F.post write) → Writes (to_each u (λ i. g (i - 1))) out.old out.new result }
+{
+    let mut at: usize = 0;
+    for j in 0..u.n as usize {
+        at += write(&mut out[at..], j);
+    }
+    at
+}
+
 // A send to each box, with its polynomials; box 1's stand at 0.
 pub fn write_sends(out: &mut [u8], u: SetUp, c: [[Element; 8]; 8], all: [Polynomials; 10]) -> usize
     requires { CanSend u out.old }
     ensures { Writes (to_each u (λ j. send c (to_box all no_polynomials j))) out.old out.new result }
 {
-    let n = u.n as usize;
-    let mut at: usize = 0;
-    for j in 0..n {
-        at += write_send(&mut out[at..], u, c, all[j]);
-    }
-    at
+    write_each(out, u, |tail, j| write_send(tail, u, c, all[j]))
 }
 
 // An echo or a ready to each box, with its point; box 1's stands at 0.
@@ -151,12 +160,7 @@ pub fn write_points(
     requires { CanSend u out.old }
     ensures { Writes (to_each u (λ j. saying side c (to_box fours zero_four j))) out.old out.new result }
 {
-    let n = u.n as usize;
-    let mut at: usize = 0;
-    for j in 0..n {
-        at += write_point(&mut out[at..], u, side, c, fours[j]);
-    }
-    at
+    write_each(out, u, |tail, j| write_point(tail, u, side, c, fours[j]))
 }
 
 // The same recovery share to each box.
@@ -164,9 +168,5 @@ pub fn write_shares(out: &mut [u8], u: SetUp, pair: Pair) -> usize
     requires { CanSend u out.old }
     ensures { Writes (to_each u (λ j. recovery pair)) out.old out.new result }
 {
-    let mut at: usize = 0;
-    for _ in 0..u.n {
-        at += write_share(&mut out[at..], u, pair);
-    }
-    at
+    write_each(out, u, |tail, _| write_share(tail, u, pair))
 }

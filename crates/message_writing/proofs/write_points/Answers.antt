@@ -1,11 +1,8 @@
-use Rattle.message_writing.specs.Laws.{sent_none, sent_more, sent_all}
+use Rattle.std.proofs.Common.{rules}
+use Rattle.std.specs.Prelude.{get_or}
+use Rattle.rules.specs.Matrices.{zero_four}
+use Rattle.rules.specs.Messages.{saying}
 use Rattle.message_writing.proofs.write_points.Goals as goal
 
-pub loop-j-init : goal.loop-j-init
-loop-j-init c = sent_none _ _ _
-
-pub loop-j-preserved : goal.loop-j-preserved
-loop-j-preserved c = sent_more c.loop-j.invariant c.requires c.loop-j-test.true c.write_point-at.ensures
-
 pub returns : goal.returns
-returns c = sent_all c.loop-j.invariant c.requires c.loop-j-test.false
+returns c = c.write_each.ensures (λ i. saying c.args.side c.args.c (get_or c.args.fours i zero_four)) (λ b j r b' p. search rules)
