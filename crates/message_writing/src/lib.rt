@@ -21,6 +21,7 @@ fn put_byte(out: &mut [u8], at: usize, x: u8) -> usize
 }
 
 // A number, high byte first.
+#[tactic(auto, using(crate::specs::Laws::puts_copied), unfolding(rules::specs::Messages::two_bytes))]
 fn put_number(out: &mut [u8], at: usize, x: u16) -> usize
     requires { at + 2 ≤ length out.old }
     ensures { Puts at 2 (two_bytes x) out.old out.new result }
