@@ -45,6 +45,7 @@ fn put_row<T: Number>(out: &mut [u8], at: usize, row: [T; 8], k: usize) -> usize
 }
 
 // The first k rows of a matrix.
+#[tactic(auto, using(crate::specs::Laws::put_all), unfolding(rules::specs::Messages::matrix_bytes))]
 fn put_matrix(out: &mut [u8], at: usize, c: [[Element; 8]; 8], k: usize) -> usize
     requires { (k ≤ 8) × (at + 2 * (k * k) ≤ length out.old) }
     ensures { Puts at (k * (k * 2)) (matrix_bytes k c) out.old out.new result }
@@ -68,6 +69,7 @@ fn put_polynomials(out: &mut [u8], at: usize, u: SetUp, all: Polynomials) -> usi
 }
 
 // Two numbers, one behind the other.
+#[tactic(auto, using(crate::specs::Laws::puts_then), unfolding(rules::specs::Messages::two_bytes))]
 fn put_two(out: &mut [u8], at: usize, first: Exponent, second: Exponent) -> usize
     requires { at + 4 ≤ length out.old }
     ensures { Puts at 4 (two_bytes first.0 ++ two_bytes second.0) out.old out.new result }
@@ -77,6 +79,7 @@ fn put_two(out: &mut [u8], at: usize, first: Exponent, second: Exponent) -> usiz
 }
 
 // Tag, size of the rest, dealer, session.
+#[tactic(auto, using(crate::specs::Laws::puts_then), unfolding(crate::specs::Written::head_bytes, rules::specs::Messages::two_bytes))]
 fn put_head(out: &mut [u8], u: SetUp, tag: u8, size: u16) -> usize
     requires { SetUpFits u × (6 ≤ length out.old) }
     ensures { Puts 0 6 (head_bytes u tag size) out.old out.new result }
