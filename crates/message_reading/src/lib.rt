@@ -58,7 +58,7 @@ pub fn is_malformed(s: &[u8], u: SetUp) -> bool
 {
     let n = s.len();
     n < 3
-        || !(1 <= s[0] && s[0] <= 4)
+        || !matches!(s[0], 1..=4)
         || usize::from(number(s, 1)) != n - 3
         || n != whole_length(u, s[0])
         || s[0] <= 3 && u32::from(s[6]) != u.k
