@@ -38,8 +38,8 @@ fn put_row<T: Number>(out: &mut [u8], at: usize, row: [T; 8], k: usize) -> usize
     ensures { Puts at (k * 2) (gather k (λ l. two_bytes (T.value (get_or row l (T.wrap 0))))) out.old out.new result }
 {
     let mut next = at;
-    for l in 0..k {
-        next = put_number(out, next, row[l].get());
+    for x in &row[..k] {
+        next = put_number(out, next, x.get());
     }
     next
 }
@@ -51,8 +51,8 @@ fn put_matrix(out: &mut [u8], at: usize, c: [[Element; 8]; 8], k: usize) -> usiz
     ensures { Puts at (k * (k * 2)) (matrix_bytes k c) out.old out.new result }
 {
     let mut next = at;
-    for j in 0..k {
-        next = put_row(out, next, c[j], k);
+    for row in &c[..k] {
+        next = put_row(out, next, *row, k);
     }
     next
 }

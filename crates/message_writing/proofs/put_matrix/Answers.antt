@@ -1,8 +1,15 @@
+use Rattle.std.proofs.Common.{arith}
+use Rattle.std.specs.Prelude.{[], ◌<◌}
+use Rattle.std.proofs.lemmas.List.{get_or-take, length-take}
 use Rattle.message_writing.specs.Laws.{put_none, put_more}
 use Rattle.message_writing.proofs.put_matrix.Goals as goal
 
-pub loop-j-init : goal.loop-j-init
-loop-j-init c = put_none _ _ _ _ _
+pub loop-row-init : goal.loop-row-init
+loop-row-init c = put_none _ _ _ _ _
 
-pub loop-j-preserved : goal.loop-j-preserved
-loop-j-preserved c = put_more c.loop-j.invariant c.loop-j-test.true c.put_row-next.ensures
+pub loop-row-preserved : goal.loop-row-preserved
+loop-row-preserved c =
+    let size = length-take c.args.k c.args.c in
+    let lt : c.loop-row.row-index < c.args.k = omega arith in
+    let e = get_or-take c.args.k c.args.c c.loop-row.row-index [] lt in
+    put_more c.loop-row.invariant lt (rw e at c.put_row-next.ensures)

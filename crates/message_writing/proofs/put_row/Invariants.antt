@@ -3,5 +3,5 @@ use Rattle.rules.specs.Messages.{two_bytes}
 use Rattle.message_writing.specs.Laws.{Put}
 use Rattle.message_writing.proofs.put_row.Given as goal
 
-abbrev pub invariant-loop-l : goal.invariant-loop-l
-invariant-loop-l g l = Put (λ i. two_bytes (g.T.Number.value (get_or l.row i (g.T.Number.wrap 0)))) 2 l.k l.at l.fn.out l.out l.next l.l
+abbrev pub invariant-loop-x : goal.invariant-loop-x
+invariant-loop-x g l = Put (λ i. two_bytes (g.T.Number.value (get_or l.fn.row i (g.T.Number.wrap 0)))) 2 l.k l.at l.fn.out l.out l.next l.x-index
