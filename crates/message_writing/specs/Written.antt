@@ -34,7 +34,7 @@ pub record Writes (bytes out₀ out : List ℕ) (count : ℕ) : Type 0 where
   pub counted : count ≡ length bytes
   pub front : out ≡ written bytes out₀
 
--- each call that left `post` to be true has written message j: in the buffer lent to it, of which `count` bytes
+-- a closure, by what its calls leave true (`post`), writes message g j at the front of what it is lent, when it is called with j
 abbrev pub EachWrites : SetUp → (ℕ → Message) → (MutBor (List ℕ) → ℕ → ℕ → MutBor (List ℕ) → Type 0) → Type 0
 EachWrites u g post = (lent : _) (j count : ℕ) (back : _) → post lent j count back → Writes (bytes_of u (g j)) lent.now back.now count
 
