@@ -14,7 +14,7 @@ use Rattle.std.specs.Cmp.Lexicographic.{pointwise}
 use borrow.Author.Tests.{lt-ltb}
 use Rattle.folds.specs.Tests.{◌and◌, pick, true≢false, and_right, iff_same}
 use Rattle.folds.specs.Below.{first_from, first_from_le, all_below, all_below_at, all_below_all, all_below_same}
-use Rattle.folds.specs.Chains.{found}
+use Rattle.folds.specs.Below.{found}
 use Rattle.rules.specs.Text.{byte_at, digit_at, word_at}
 use Rattle.text.specs.Decimals.{byte_there, byte_within}
 use Rattle.text.specs.Hexadecimal.{is_hex_digit, hex_at, hex_stands, hex_there}
