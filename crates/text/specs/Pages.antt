@@ -2,12 +2,12 @@
 --
 -- In order: bytes added; runs of them one behind the other; a loop that adds them; digits.
 -- Assumes nothing.
-use Rattle.std.specs.Prelude.{List, [], ◌∷◌, ◌++◌, ◌≡◌, refl, ℕ, ◌+◌, ◌-◌, ◌*◌, ◌/◌, ◌%◌, ◌^◌, ◌<◌, ◌≤◌, ltb, length}
+use Rattle.std.specs.Prelude.{List, [], ◌∷◌, ◌++◌, ◌≡◌, refl, ℕ, ◌+◌, ◌-◌, ◌*◌, ◌/◌, ◌%◌, ◌^◌, ◌<◌, ◌≤◌, ltb, length, get_or}
 use Rattle.std.proofs.Common.{append_assoc, append-nil, sym, ap, ◌∙◌, arith, div-one, lt-ltb, le-ltb, length-append}
 use Rattle.arrayvec.specs.ArrayVec.{ArrayVec, array_vec_len}
 use Rattle.folds.specs.Tests.{pick}
 use Rattle.folds.specs.Runs.{gather, gather-zero, gather-more}
-use Rattle.rules.specs.Text.{digit_of}
+use Rattle.rules.specs.Text.{text, digit_of, decimal}
 
 -- these bytes behind what stood on the page, at most so many
 pub record Adds (page : ArrayVec ℕ) (bytes : List ℕ) (most : ℕ) (page' : ArrayVec ℕ) : Type 0 where
@@ -29,15 +29,26 @@ module _ {page page' : ArrayVec ℕ} where
 
 -- ---- a loop that adds them
 
-pub runs_none : (f : ℕ → List ℕ) (w : ℕ) {page : ArrayVec ℕ} → Adds page (gather 0 f) (0 * w) page
-runs_none f w {page} =
+-- f 0, .. f (j - 1), w bytes each at most, behind what stood on the page
+pub record AddsRuns (f : ℕ → List ℕ) (w : ℕ) (page : ArrayVec ℕ) (j : ℕ) (page' : ArrayVec ℕ) : Type 0 where
+  pub put : page'.items ≡ page.items ++ gather j f
+  pub room : array_vec_len page' ≤ array_vec_len page + j * w
+
+pub runs_none : {f : ℕ → List ℕ} {w : ℕ} {page : ArrayVec ℕ} → AddsRuns f w page 0 page
+runs_none {f} {w} {page} =
     record { put = sym (append-nil page.items) ∙ ap (λ (t : List ℕ). page.items ++ t) (sym (gather-zero f)); room = omega arith }
 
-pub runs_more : (f : ℕ → List ℕ) (w j : ℕ) {page next page' : ArrayVec ℕ} → Adds page (gather j f) (j * w) next → Adds next (f j) w page'
-    → Adds page (gather (j + 1) f) ((j + 1) * w) page'
-runs_more f w j {page} {next} {page'} h g =
-    let both = adds_then h g in
-    record { put = both.put ∙ ap (λ (t : List ℕ). page.items ++ t) (sym (gather-more f j)); room = let r = both.room in omega arith }
+module _ {f : ℕ → List ℕ} {w : ℕ} {page : ArrayVec ℕ} {j : ℕ} {next : ArrayVec ℕ} (h : AddsRuns f w page j next) where
+  pub runs_more : {page' : ArrayVec ℕ} → Adds next (f j) w page' → AddsRuns f w page (j + 1) page'
+  runs_more g =
+      record {
+        put = g.put ∙ ap (λ (t : List ℕ). t ++ f j) h.put ∙ append_assoc page.items (gather j f) (f j)
+            ∙ ap (λ (t : List ℕ). page.items ++ t) (sym (gather-more f j));
+        room = let r = h.room in let s = g.room in omega arith;
+      }
+
+  pub runs_all : (n most : ℕ) → n ≡ j → j * w ≤ most → Adds page (gather n f) most next
+  runs_all n most e l = rw e (record { put = h.put; room = let r = h.room in omega arith })
 
 -- ---- digits
 
@@ -56,10 +67,19 @@ module _ (n x j : ℕ) {power : ℕ} {page page' : ArrayVec ℕ} (counts : power
   pub digit_left : x < power → page' ≡ page → Adds page (digit_for n x j) 1 page'
   digit_left h e = rw (← counts, lt-ltb x power h, e) (record { put = sym (append-nil page.items); room = omega arith })
 
-pub digits_all : (n x : ℕ) {j : ℕ} {page next page' : ArrayVec ℕ} → Adds page (gather j (digit_for n x)) (j * 1) next → j ≡ n
+pub digits_all : (n x : ℕ) {j : ℕ} {page next page' : ArrayVec ℕ} → AddsRuns (digit_for n x) 1 page j next → n ≡ j
     → page'.items ≡ next.items ++ (48 + x % 10) ∷ [] → Adds page (digits n x) (n + 1) page'
 unfolding digits
 digits_all n x {j} {page} {next} {page'} h i e =
     let last : Adds next (digit_of x 1 ∷ []) 1 page' =
     record { put = e ∙ ap (λ (y : ℕ). next.items ++ (48 + y % 10) ∷ []) (sym (div-one x)); room = omega (arith, ap length e, length-append next.items ((48 + x % 10) ∷ [])) } in
-    adds_room (adds_then (rw i at h) last) (omega arith)
+    adds_room (adds_then (runs_all h n n i (omega arith)) last) (omega arith)
+
+-- ---- numbers
+
+-- a space and a number, for each of these
+abbrev pub number_of : List ℕ → ℕ → List ℕ
+number_of xs j = text " " ++ decimal (get_or xs j 0)
+
+unfoldable pub numbers_of : List ℕ → List ℕ
+numbers_of xs = gather (length xs) (number_of xs)

@@ -1,8 +1,9 @@
 // Writers that add to a page, an array with a length of its own.
-ghost use Rattle.std.specs.Prelude.{◌+◌, ◌≤◌, ◌<◌, ◌++◌, length};
+ghost use Rattle.std.specs.Prelude.{◌≡◌, ◌+◌, ◌*◌, ◌≤◌, ◌<◌, ◌++◌, length};
 ghost use Rattle.rules.specs.Text.{decimal};
 ghost use Rattle.arrayvec.specs.ArrayVec.{array_vec_len};
-ghost use Rattle.text.specs.Pages.{Adds, digits};
+ghost use Rattle.text.specs.Hexadecimal.{glyph, hex_of};
+ghost use Rattle.text.specs.Pages.{Adds, digits, numbers_of};
 
 use arrayvec::ArrayVec;
 
@@ -45,4 +46,37 @@ pub fn put_numbered<const N: usize>(page: &mut ArrayVec<u8, N>, word: &[u8], x: 
 {
     put_word(page, word);
     put_decimal(page, x);
+}
+
+// ---- hexadecimal
+
+fn glyph(x: u8) -> u8
+    requires { x < 16 }
+    ensures { result ≡ glyph x }
+{
+    if x < 10 { b'0' + x } else { b'a' + (x - 10) }
+}
+
+// These bytes, two digits each.
+#[tactic(auto, using(crate::specs::Pages::runs_all), unfolding(crate::specs::Hexadecimal::hex_of))]
+pub fn put_hex<const N: usize>(page: &mut ArrayVec<u8, N>, bytes: &[u8])
+    requires { array_vec_len page.old + 2 * length bytes.now ≤ N }
+    ensures { Adds page.old (hex_of bytes.now 0 (length bytes.now)) (2 * length bytes.now) page.new }
+{
+    for &x in bytes {
+        put_word(page, &[glyph(x / 16), glyph(x % 16)]);
+    }
+}
+
+// ---- numbers
+
+// A space and a number, for each of these.
+#[tactic(auto, using(crate::specs::Pages::runs_all), unfolding(crate::specs::Pages::numbers_of))]
+pub fn put_numbers<const N: usize>(page: &mut ArrayVec<u8, N>, numbers: &[u16])
+    requires { array_vec_len page.old + 6 * length numbers.now ≤ N }
+    ensures { Adds page.old (numbers_of numbers.now) (6 * length numbers.now) page.new }
+{
+    for &x in numbers {
+        put_numbered(page, b" ", x);
+    }
 }
