@@ -65,6 +65,55 @@ pub fn put_answer<const N: usize>(page: &mut ArrayVec<u8, N>, a: Answer)
     text::page::put_word(page, b"\n");
 }
 
+// ---- the messages
+
+// The message to box j.
+#[tactic(auto, using(text::specs::Pages::adds_then), unfolding(crate::specs::Answers::message_line, rules::specs::Text::text))]
+fn put_message<const N: usize>(page: &mut ArrayVec<u8, N>, j: u16, message: &[u8])
+    requires { array_vec_len page.old + 10 + 2 * length message.now ≤ N }
+    ensures { Adds page.old (message_line j message.now 0 (length message.now)) (10 + 2 * length message.now) page.new }
+{
+    text::page::put_numbered(page, b"to ", j);
+    text::page::put_word(page, b" ");
+    text::page::put_hex(page, message);
+    text::page::put_word(page, b"\n");
+}
+
+// A line for each of n messages of one size.
+#[tactic(auto, using(text::specs::Pages::runs_all), unfolding(crate::specs::Answers::each_line))]
+fn put_each<const N: usize>(page: &mut ArrayVec<u8, N>, n: usize, size: usize, buffer: &[u8])
+    requires { (n ≤ 10) × (n * size ≤ length buffer.now) × (array_vec_len page.old + 100 + 2 * length buffer.now ≤ N) }
+    ensures { Adds page.old (each_line n size buffer.now) (100 + 2 * length buffer.now) page.new }
+{
+    for j in 0..n {
+        let from = j * size;
+        put_message(page, (j + 1) as u16, &buffer[from..from + size]);
+    }
+}
+
+// The n messages of a call, of so many bytes together.
+#[tactic(auto, using(text::specs::Pages::adds_none), unfolding(crate::specs::Answers::message_lines))]
+pub fn put_messages<const N: usize>(page: &mut ArrayVec<u8, N>, n: usize, bytes: usize, buffer: &[u8])
+    requires { array_vec_len page.old + 100 + 2 * length buffer.now ≤ N }
+    ensures { Adds page.old (message_lines n bytes buffer.now) (100 + 2 * length buffer.now) page.new }
+{
+    if 1 <= n && n <= 10 && 1 <= bytes && bytes <= buffer.len() {
+        put_each(page, n, bytes / n, buffer);
+    }
+}
+
+// ---- a call
+
+// Its answer and its messages.
+#[tactic(auto, using(text::specs::Pages::adds_then), unfolding(crate::specs::Answers::call_lines))]
+pub fn put_call<const N: usize>(page: &mut ArrayVec<u8, N>, n: usize, a: Answer, buffer: &[u8])
+    requires { array_vec_len page.old + 163 + 2 * length buffer.now ≤ N }
+    ensures { Adds page.old (call_lines n a buffer.now) (163 + 2 * length buffer.now) page.new }
+{
+    put_answer(page, a);
+    put_messages(page, n, a.bytes, buffer);
+}
+
 // What the console says to `lend`.
 #[tactic(auto, using(text::specs::Pages::adds_then), unfolding(crate::specs::Answers::lent_line, rules::specs::Text::text))]
 pub fn put_lent<const N: usize>(page: &mut ArrayVec<u8, N>, lent: usize)

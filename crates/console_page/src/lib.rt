@@ -3,6 +3,6 @@
 #![tactic(auto)]
 
 pub mod answers;
-// mod messages;
+mod messages;
 pub mod numbers;
-// pub mod reading;
+pub mod reading;

@@ -2,12 +2,13 @@
 --
 -- In order: bytes added; runs of them one behind the other; a loop that adds them; digits.
 -- Assumes nothing.
-use Rattle.std.specs.Prelude.{List, [], ◌∷◌, ◌++◌, ◌≡◌, refl, ℕ, ◌+◌, ◌-◌, ◌*◌, ◌/◌, ◌%◌, ◌^◌, ◌<◌, ◌≤◌, ltb, length, get_or}
-use Rattle.std.proofs.Common.{append_assoc, append-nil, sym, ap, ◌∙◌, arith, div-one, lt-ltb, le-ltb, length-append}
+use Rattle.std.specs.Prelude.{List, [], ◌∷◌, ◌++◌, ◌≡◌, refl, ℕ, ◌+◌, ◌-◌, ◌*◌, ◌/◌, ◌%◌, ◌^◌, ◌<◌, ◌≤◌, ltb, length, get_or, take, drop}
+use Rattle.std.proofs.Common.{append_assoc, append-nil, sym, ap, ◌∙◌, arith, div-one, lt-ltb, le-ltb, length-append, length-drop, length-take-le, get_or-take, get_or-drop, zero-add}
 use Rattle.arrayvec.specs.ArrayVec.{ArrayVec, array_vec_len}
 use Rattle.folds.specs.Tests.{pick}
-use Rattle.folds.specs.Runs.{gather, gather-zero, gather-more}
+use Rattle.folds.specs.Runs.{gather, gather-same, gather-zero, gather-more}
 use Rattle.rules.specs.Text.{text, digit_of, decimal}
+use Rattle.text.specs.Hexadecimal.{hex_pair, hex_of}
 
 -- these bytes behind what stood on the page, at most so many
 pub record Adds (page : ArrayVec ℕ) (bytes : List ℕ) (most : ℕ) (page' : ArrayVec ℕ) : Type 0 where
@@ -17,6 +18,9 @@ pub record Adds (page : ArrayVec ℕ) (bytes : List ℕ) (most : ℕ) (page' : A
 -- ---- runs of them one behind the other
 
 module _ {page page' : ArrayVec ℕ} where
+  pub adds_none : page' ≡ page → (most : ℕ) → Adds page [] most page'
+  adds_none e most = rw e (record { put = sym (append-nil page.items); room = omega arith })
+
   pub adds_room : {a : List ℕ} {m n : ℕ} → Adds page a m page' → m ≤ n → Adds page a n page'
   adds_room h l = record { put = h.put; room = let r = h.room in omega arith }
 
@@ -83,3 +87,16 @@ number_of xs j = text " " ++ decimal (get_or xs j 0)
 
 unfoldable pub numbers_of : List ℕ → List ℕ
 numbers_of xs = gather (length xs) (number_of xs)
+
+-- ---- hexadecimal
+
+-- a part of some bytes: how long it is, and its digits
+module _ (b : List ℕ) (i n : ℕ) {m : ℕ} (e : m ≡ n) (h : i + n ≤ length b) where
+  pub length-part : length (take m (drop i b)) ≡ n
+  length-part = rw e (length-take-le n (drop i b) (rw (length-drop i b) (omega arith)))
+
+  pub hex_of_part : hex_of (take m (drop i b)) 0 (length (take m (drop i b))) ≡ hex_of b i n
+  unfolding hex_of
+  hex_of_part =
+      rw length-part
+      (gather-same _ _ n (λ j lt. ap hex_pair (rw (zero-add j, e) (get_or-take n (drop i b) j 0 lt ∙ get_or-drop i b j 0))))
