@@ -25,6 +25,7 @@ fn put_polynomial<const N: usize>(page: &mut ArrayVec<u8, N>, word: &[u8], k: us
     text::page::put_numbers(page, &a.map(|x| x.0)[..k]);
 }
 
+#[tactic(auto, using(text::specs::Pages::runs_all), unfolding(crate::specs::Reading::entries_text))]
 fn put_entries<const N: usize>(page: &mut ArrayVec<u8, N>, k: usize, c: [[Element; 8]; 8])
     requires { (k ≤ 8) × (array_vec_len page.old + 384 ≤ N) }
     ensures { Adds page.old (entries_text k c) 384 page.new }

@@ -4,6 +4,9 @@
 -- Assumes nothing.
 use Rattle.std.specs.Prelude.{List, [], ◌∷◌, ◌++◌, ◌≡◌, refl, ℕ, ◌+◌, ◌-◌, ◌*◌, ◌/◌, ◌%◌, ◌^◌, ◌<◌, ◌≤◌, ltb, length, get_or, take, drop}
 use Rattle.std.proofs.Common.{append_assoc, append-nil, sym, ap, ◌∙◌, arith, div-one, lt-ltb, le-ltb, length-append, length-drop, length-take-le, get_or-take, get_or-drop, zero-add}
+use Rattle.std.specs.Fn.{Called}
+use Rattle.std.specs.Array.{IsMapOf}
+use denote.Param.Members.{Mut}
 use Rattle.arrayvec.specs.ArrayVec.{ArrayVec, array_vec_len}
 use Rattle.folds.specs.Tests.{pick}
 use Rattle.folds.specs.Runs.{gather, gather-same, gather-zero, gather-more}
@@ -87,6 +90,19 @@ number_of xs j = text " " ++ decimal (get_or xs j 0)
 
 unfoldable pub numbers_of : List ℕ → List ℕ
 numbers_of xs = gather (length xs) (number_of xs)
+
+-- of the first k of an array, a number each
+pub numbers_of_map : {F A : Type 0} {g : Mut F (A × Unit {0}) ℕ} {f : F} {xs : List A} {ys : List ℕ} {n : ℕ} (number : A → ℕ) (d : A) (k : ℕ)
+    → IsMapOf g f xs ys n → k ≤ n → ((p q : F) (x : A) (y : ℕ) → Called g p (x, tt) y q → y ≡ number x)
+    → (numbers_of (take k ys) ≡ gather k (λ l. text " " ++ decimal (number (get_or xs l d)))) × (length (take k ys) ≡ k)
+unfolding numbers_of
+numbers_of_map {xs = xs} {ys = ys} number d k h l closure =
+    let long = h.long in
+    let e : length (take k ys) ≡ k = length-take-le k ys (omega arith) in
+    (rw e (gather-same _ _ k (λ i lt. ap (λ (x : ℕ). text " " ++ decimal x) (get_or-take k ys i 0 lt ∙ at i lt))), e)
+    where
+      at : (i : ℕ) → i < k → get_or ys i 0 ≡ number (get_or xs i d)
+      at i lt = let h' = h.at i d 0 (omega arith) in closure h'.0 h'.1 _ _ h'.2
 
 -- ---- hexadecimal
 
