@@ -48,7 +48,7 @@ agree p q (suc n) i h =
     ∙ ap (λ (r : ℕ). pick (q i) i r) (agree p q n (i + 1) (λ j l g. h j (omega arith) (omega arith)))
 
 -- the place that was found, or the end
-found_or : (n : ℕ) (p : ℕ → Bool) → unwrap_or (found n p) n ≡ first_from n 0 p
+pub found_or : (n : ℕ) (p : ℕ → Bool) → unwrap_or (found n p) n ≡ first_from n 0 p
 found_or n p = go (ltb (first_from n 0 p) n) refl (first_from_le p n 0)
   where
     go : (t : Bool) → ltb (first_from n 0 p) n ≡ t → first_from n 0 p ≤ 0 + n → unwrap_or (pick t (Some (first_from n 0 p)) None) n ≡ first_from n 0 p
