@@ -59,7 +59,11 @@ fn along_columns(q: u16, k: usize, f: Square, i: u16) -> [Exponent; 8]
     requires { (0 < q) × (k ≤ 8) }
     ensures { result ≡ along_y q k f i }
 {
-    filled(Exponent(0), k, |l| value_at(q, k, column(Exponent(0), k, f, l), i))
+    filled(
+        Exponent(0),
+        k,
+        |l| value_at(q, k, column(Exponent(0), k, f, l), i),
+    )
 }
 
 // The coefficients of f(x, i): the value at i of each row.
