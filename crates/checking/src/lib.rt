@@ -11,6 +11,7 @@ ghost use Rattle.checking.specs.Equations.{Checkable, Line, element_at, along_pa
 use arithmetic::matrices::column;
 use rules::{Element, Exponent, Four, Group, Pair, Polynomials};
 
+// Group, k and C go side by side and in no struct, which is no plainer: the three checks would each build one, for one call or two.
 type Matrix = [[Element; 8]; 8];
 
 // ---- refusal 8
