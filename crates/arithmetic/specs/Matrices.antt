@@ -1,6 +1,6 @@
 -- Arrays whose first n places are filled and whose rest is zero: what stands at each place says which array it is.
 -- Assumes nothing.
-use Rattle.std.specs.Prelude.{◌≡◌, List, ℕ, ◌+◌, ◌<◌, ◌≤◌, length, get_or, replicate}
+use Rattle.std.specs.Prelude.{◌≡◌, List, ℕ, ◌<◌, ◌≤◌, length, get_or, replicate}
 use Rattle.std.proofs.Common.{sym, ◌∙◌, arith, ext_get_or}
 use Rattle.std.proofs.Math.Decide.{dec_lt}
 use Rattle.std.proofs.Math.ListN.{get_or-replicate, length-replicate}

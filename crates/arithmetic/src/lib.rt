@@ -90,7 +90,11 @@ pub fn commit(group: Group, x: Exponent, y: Exponent) -> Element
     requires { 0 < group.p }
     ensures { result ≡ element (committed group x.0 y.0) }
 {
-    times(group.p, power(group.p, group.g, x), power(group.p, group.h, y))
+    times(
+        group.p,
+        power(group.p, group.g, x),
+        power(group.p, group.h, y),
+    )
 }
 
 // Refusal 8 does not hold of this entry.

@@ -23,6 +23,7 @@ pub fn column<T: Copy>(zero: T, k: usize, m: [[T; 8]; 8], l: usize) -> [T; 8]
     requires { (k ≤ 8) × (l < 8) }
     ensures { result ≡ row k zero (λ j. get_or (get_or m j []) l zero) }
 {
+    // No `filled`: tried, and what a closure reads out of an array of T is not inferred.
     let mut made = [zero; 8];
     for j in 0..k {
         made[j] = m[j][l];

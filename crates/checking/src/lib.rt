@@ -11,6 +11,7 @@ ghost use Rattle.checking.specs.Equations.{Checkable, Line, element_at, along_pa
 use arithmetic::matrices::column;
 use rules::{Element, Exponent, Four, Group, Pair, Polynomials};
 
+// Group, k and C go side by side and in no struct, which is no plainer: the three checks would each build one, for one call or two.
 type Matrix = [[Element; 8]; 8];
 
 // ---- refusal 8
@@ -122,7 +123,14 @@ fn l_equation(group: Group, k: usize, c: Matrix, i: u16, all: Polynomials, l: us
     requires { Checkable group k c × (l < k) }
     ensures { result ≡ l_equation group k c i all l }
 {
-    line_opens(group, k, column(Element(0), k, c, l), i, all.a[l], all.a2[l])
+    line_opens(
+        group,
+        k,
+        column(Element(0), k, c, l),
+        i,
+        all.a[l],
+        all.a2[l],
+    )
 }
 
 // g^(b_j) h^(b'_j) is the product over l of C(j,l)^(i^l).
@@ -150,7 +158,8 @@ pub fn polynomial_check(group: Group, k: usize, c: Matrix, i: u16, all: Polynomi
     requires { Checkable group k c }
     ensures { result ≡ polynomial_check group k c i all }
 {
-    (0..k).all(|l| l_equation(group, k, c, i, all, l)) && (0..k).all(|j| j_equation(group, k, c, i, all, j))
+    (0..k).all(|l| l_equation(group, k, c, i, all, l))
+        && (0..k).all(|j| j_equation(group, k, c, i, all, j))
 }
 
 // At box i, from box m.
@@ -158,7 +167,8 @@ pub fn point_check(group: Group, k: usize, c: Matrix, i: u16, m: u16, four: Four
     requires { Checkable group k c }
     ensures { result ≡ point_check group k c i m four }
 {
-    point_opens(group, k, c, m, i, four.alpha, four.alpha2) && point_opens(group, k, c, i, m, four.beta, four.beta2)
+    point_opens(group, k, c, m, i, four.alpha, four.alpha2)
+        && point_opens(group, k, c, i, m, four.beta, four.beta2)
 }
 
 // For box m: one equation, over column 0.
@@ -166,5 +176,12 @@ pub fn share_check(group: Group, k: usize, c: Matrix, m: u16, pair: Pair) -> boo
     requires { Checkable group k c }
     ensures { result ≡ share_check group k c m pair }
 {
-    line_opens(group, k, column(Element(0), k, c, 0), m, pair.first, pair.second)
+    line_opens(
+        group,
+        k,
+        column(Element(0), k, c, 0),
+        m,
+        pair.first,
+        pair.second,
+    )
 }

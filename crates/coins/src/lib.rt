@@ -48,7 +48,7 @@ pub fn from_coins(u: SetUp, secret: u16, coins: &[u16], from: usize) -> [[Expone
     requires { (u.k ≤ 8) × (from + u.k * u.k ≤ length coins.now + 1) }
     ensures { result ≡ from_coins u secret coins.now from }
 {
-    // No `filled`: what a closure with an array for its result ensures is not inferred.
+    // No `filled`: tried, and what a closure that returns an array ensures is not inferred.
     let k = u.k as usize;
     let mut made = [[Exponent(0); 8]; 8];
     for j in 0..k {

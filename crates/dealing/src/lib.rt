@@ -29,7 +29,7 @@ pub fn commit_all(group: Group, k: usize, f: Square, f2: Square) -> [[Element; 8
     requires { (0 < group.p) × (k ≤ 8) }
     ensures { result ≡ commitment group k f f2 }
 {
-    // No `filled`: what a closure with an array for its result ensures is not inferred.
+    // No `filled`: tried, and what a closure that returns an array ensures is not inferred.
     let mut made = [[Element(0); 8]; 8];
     for j in 0..k {
         made[j] = commit_row(group, k, f[j], f2[j]);
@@ -59,7 +59,11 @@ fn along_columns(q: u16, k: usize, f: Square, i: u16) -> [Exponent; 8]
     requires { (0 < q) × (k ≤ 8) }
     ensures { result ≡ along_y q k f i }
 {
-    filled(Exponent(0), k, |l| value_at(q, k, column(Exponent(0), k, f, l), i))
+    filled(
+        Exponent(0),
+        k,
+        |l| value_at(q, k, column(Exponent(0), k, f, l), i),
+    )
 }
 
 // The coefficients of f(x, i): the value at i of each row.

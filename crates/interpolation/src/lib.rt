@@ -33,7 +33,11 @@ fn others_at(q: u16, all: Points, i: usize, x: u16) -> Exponent
     let mut made = Exponent(1 % q);
     for j in 0..all.count {
         if j != i {
-            made = arithmetic::product(q, made, arithmetic::difference(q, Exponent(x), Exponent(all.said[j].number)));
+            made = arithmetic::product(
+                q,
+                made,
+                arithmetic::difference(q, Exponent(x), Exponent(all.said[j].number)),
+            );
         }
     }
     made
@@ -44,7 +48,11 @@ pub fn inverses(q: u16, all: Points) -> [Exponent; 8]
     requires { Fit q all }
     ensures { result ≡ inverse_row q all.count (boxes_of all) }
 {
-    filled(Exponent(0), all.count, |i| arithmetic::inverted(q, others_at(q, all, i, all.said[i].number)))
+    filled(
+        Exponent(0),
+        all.count,
+        |i| arithmetic::inverted(q, others_at(q, all, i, all.said[i].number)),
+    )
 }
 
 // What the value of each point counts at x.
@@ -52,7 +60,11 @@ fn weights(q: u16, all: Points, inverse: [Exponent; 8], x: u16) -> [Exponent; 8]
     requires { Based q all inverse }
     ensures { result ≡ weight_row q all.count (boxes_of all) x }
 {
-    filled(Exponent(0), all.count, |i| arithmetic::product(q, others_at(q, all, i, x), inverse[i]))
+    filled(
+        Exponent(0),
+        all.count,
+        |i| arithmetic::product(q, others_at(q, all, i, x), inverse[i]),
+    )
 }
 
 #[tactic(auto, unfolding(crate::specs::Lagrange::weighted_sum))]
@@ -67,7 +79,6 @@ fn weighted(q: u16, count: usize, weight: [Exponent; 8], value: [Exponent; 8]) -
     sum
 }
 
-#[tactic(auto, unfolding(crate::specs::Lagrange::weighted_pair))]
 fn weighted_pair(q: u16, weight: [Exponent; 8], all: Points) -> Pair
     requires { Fit q all }
     ensures { result ≡ weighted_pair q weight all }

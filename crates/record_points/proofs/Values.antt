@@ -49,9 +49,9 @@ module _ (q k : ℕ) (asked : Lowest q k) where
         few = few;
         low = λ j l.
             let at =
-                ap (λ (b : List ℕ). get_or b j 0) (boxes_in ps)
-                ∙ in_array_at 0 (λ (p : Said Pair). p.box) ps few j l
-                ∙ get_or-map (λ (p : Said Pair). p.box) ps j nobody in
+            ap (λ (b : List ℕ). get_or b j 0) (boxes_in ps)
+            ∙ in_array_at 0 (λ (p : Said Pair). p.box) ps few j l
+            ∙ get_or-map (λ (p : Said Pair). p.box) ps j nobody in
             omega (arith, kept_numbered k keeps j l, asked.order);
       }
 

@@ -1,4 +1,4 @@
-use Rattle.std.proofs.Common.{rules, refl}
+use Rattle.std.proofs.Common.{rules}
 use Rattle.std.specs.Prelude.{ltb}
 use borrow.Author.Tests.{tests}
 use Rattle.folds.specs.Chains.{all_of_slice}

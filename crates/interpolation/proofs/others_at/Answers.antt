@@ -16,8 +16,8 @@ difference-requires c = (c.requires.some, rw (number_at c.args.all c.loop-j.j) (
 pub loop-j-preserved : goal.loop-j-preserved
 loop-j-preserved c =
     elim c.if-j-i.branch [
-      then-j-i w ↦ rw (w.made-is, w.product-made.ensures, w.difference.ensures, number_at c.args.all c.loop-j.j, c.loop-j.invariant) (another _ _ _ _ _ w.if-j-i.true)
-    | else-j-i w ↦ rw (w.made-is, c.loop-j.invariant) (own _ _ _ _ _ w.if-j-i.false)
+      | then-j-i w ↦ rw (w.made-is, w.product-made.ensures, w.difference.ensures, number_at c.args.all c.loop-j.j, c.loop-j.invariant) (another _ _ _ _ _ w.if-j-i.true)
+      | else-j-i w ↦ rw (w.made-is, c.loop-j.invariant) (own _ _ _ _ _ w.if-j-i.false)
     ]
 
 pub returns : goal.returns
