@@ -42,7 +42,7 @@ pub fn put(b: &[u8], page: &mut [u8]) -> usize
         None => 0,
         Some(Bad::TooLong) => text::write::put_word(page, 0, b"sheet: over 4,096 bytes\n"),
         Some(Bad::Line { before, reason }) => {
-            let number = before as u32 + 1;
+            let number = u32::from(before) + 1;
             let next = text::write::put_numbered(page, 0, b"sheet: line ", number);
             let next = text::write::put_word(page, next, b": ");
             put_reason(page, next, reason)

@@ -22,5 +22,5 @@ returns-in-Some-Line c =
     rw (sym c.sheet_bad.ensures ∙ c.in-Some-Line.is ∙ ap Some c.in-Some-Line.field-0-is)
     (puts_room page 0 (line ++ text ": " ++ reason_text c.in-Some-Line.reason) 69 128 (omega arith)
     (puts_then page 0 (line ++ text ": ") (reason_text c.in-Some-Line.reason) 19 50
-    (puts_then_word page 0 line (text ": ") 17 c.put_numbered-next.ensures c.put_word-next.ensures)
+    (puts_then_word page 0 line (text ": ") 17 (rw c.from-number.ensures at c.put_numbered-next.ensures) c.put_word-next.ensures)
     c.put_reason.ensures))
