@@ -3,11 +3,11 @@
 -- In order: two numbers; one of any size that code counts with, which is `decimal` below 100,000.
 -- Assumes nothing.
 use mathlib.Core.List.{List, [], ◌∷◌, ◌++◌}
-use Rattle.std.specs.Prelude.{◌≡◌, ltb, set}
+use Rattle.std.specs.Prelude.{◌≡◌, ltb}
 use Rattle.std.proofs.Math.Path.{refl, ap, ap₂}
-use Rattle.std.proofs.Common.{sym, ◌∙◌, pow-suc, mul-div_cancel, div-one, arith, lt-ltb, le-ltb}
-use Prim.Native.Nat.{ℕ, zero, suc, ◌+◌, ◌-◌, ◌/◌, ◌%◌, ◌^◌, ◌<◌, ◌≤◌}
-use Rattle.std.proofs.Math.Nat.{one-le-pow, pow-le-pow_right}
+use Rattle.std.proofs.Common.{arith, lt-ltb}
+use Prim.Native.Nat.{ℕ, zero, suc, ◌-◌, ◌^◌, ◌<◌, ◌≤◌}
+use Rattle.std.proofs.Math.Nat.{pow-le-pow_right}
 use Rattle.folds.specs.Tests.{pick}
 use Rattle.folds.specs.Runs.{gather}
 use Rattle.rules.specs.Text.{text, digit_of, decimal}

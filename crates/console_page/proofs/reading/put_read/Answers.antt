@@ -2,7 +2,7 @@
 use Rattle.std.proofs.Common.{rules, sym, ◌∙◌, arith}
 use Rattle.rules.specs.Text.{text}
 use Rattle.text.specs.Pages.{adds_room}
-use Rattle.console_page.specs.Reading.{of_width, read_line}
+use Rattle.console_page.specs.Reading.{read_line}
 use Rattle.console_page.specs.Widths.{width_formed, width_few}
 use Rattle.console_page.proofs.reading.put_read.Goals as goal
 

@@ -2,12 +2,12 @@
 use Rattle.std.proofs.Common.{rules, List, ℕ, ◌≡◌, ◌≤◌, ap, arith}
 use Rattle.arrayvec.specs.ArrayVec.{ArrayVec}
 use Rattle.rules.specs.declared.SetUp.{SetUp}
-use Rattle.rules.specs.Messages.{tag_in, matrix_in, polynomials_in, four_in, pair_in}
+use Rattle.rules.specs.Messages.{tag_in}
 use Rattle.rules.specs.Text.{text}
 use Rattle.rules.specs.Laws.RoundTrip.{Formed}
 use Rattle.rules.proofs.Laws.RoundTrip.{formed, by_tag, header, send_long, share_long, point_long, is_send_lem, is_echo_lem, is_ready_lem, is_recovery_lem}
 use Rattle.text.specs.Pages.{Adds, adds_room}
-use Rattle.console_page.specs.Reading.{message_text, send_line, point_line, share_line, said_line}
+use Rattle.console_page.specs.Reading.{message_text, said_line}
 use Rattle.console_page.proofs.reading.put_said.Goals as goal
 
 -- what is left is a recovery share
