@@ -65,14 +65,26 @@ fn told(lent: usize, o: Outcome, out: &[u8], page: &mut ArrayVec<u8, ROOM>) -> T
     Turn { bench, ends: false }
 }
 
-fn deal(bench: Bench, secret: u32, coins: &[u16], out: &mut [u8], page: &mut ArrayVec<u8, ROOM>) -> Turn
+fn deal(
+    bench: Bench,
+    secret: u32,
+    coins: &[u16],
+    out: &mut [u8],
+    page: &mut ArrayVec<u8, ROOM>,
+) -> Turn
     requires { array_vec_len page.old ≡ 0 }
 {
     let o = box_calls::deal(bench.x, secret, coins, out);
     told(bench.lent, o, out, page)
 }
 
-fn deliver(bench: Bench, sender: u32, bytes: &[u8], out: &mut [u8], page: &mut ArrayVec<u8, ROOM>) -> Turn
+fn deliver(
+    bench: Bench,
+    sender: u32,
+    bytes: &[u8],
+    out: &mut [u8],
+    page: &mut ArrayVec<u8, ROOM>,
+) -> Turn
     requires { array_vec_len page.old ≡ 0 }
 {
     let o = box_calls::deliver(bench.x, sender, bytes, out);
