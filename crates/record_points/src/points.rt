@@ -4,7 +4,7 @@ ghost use Rattle.rules.specs.Steps.{points, share_points};
 ghost use Rattle.record_points.specs.Points.{points_of, with_point, considered, side, side_kept, side_points};
 
 use interpolation::{Numbered, Points};
-use rules::{Exponent, Four, Keep, Kept, Pair, Place, Point, SetUp};
+use rules::{Exponent, Four, Pair, Place, Point, SetUp};
 
 fn no_points() -> Points
     ensures { result ≡ points_of [] }
