@@ -1,69 +1,56 @@
 // The verdict on each box, under a matrix that has passed refusal 8.
-ghost use Rattle.std.specs.Prelude.{◌≡◌, ◌≤◌};
-ghost use Rattle.rules.specs.declared.Kept.TheVariants.{There};
+ghost use Rattle.std.specs.Prelude.{◌≡◌, Some, ◌<◌};
 ghost use Rattle.rules.specs.Sheet.{verdict, verified_shares};
-ghost use Rattle.checking.specs.Equations.{Checkable};
-ghost use Rattle.sheet_verdicts.specs.Verdicts.{verified_keep};
+ghost use Rattle.sheet_verdicts.specs.Verdicts.{verdict_on, verified_on};
 
-use rules::{Element, Group, Pair, SetUp, Verdict};
+use crate::Judged;
+use rules::{Pair, SetUp, Verdict};
 
-fn on_pair(group: Group, k: usize, c: [[Element; 8]; 8], m: u16, pair: Pair) -> Verdict
-    requires { Checkable group k c }
-    ensures { result ≡ verdict group k c m (There pair) }
-{
-    if !checking::pair_below(group.q, pair) {
-        return Verdict::Refused(9);
+impl Judged {
+    fn on_pair(&self, m: u16, pair: Pair) -> Verdict
+        ensures { result ≡ verdict self.now.group self.now.k self.now.c m (Some pair) }
+    {
+        if !checking::pair_below(self.group.q, pair) {
+            Verdict::Refused(9)
+        } else if !checking::share_check(self.group, self.k, self.c, m, pair) {
+            Verdict::Refused(10)
+        } else {
+            Verdict::Verified
+        }
     }
-    if !checking::share_check(group, k, c, m, pair) {
-        return Verdict::Refused(10);
-    }
-    Verdict::Verified
-}
 
-// On what box m says.
-pub fn on(group: Group, k: usize, c: [[Element; 8]; 8], m: u16, keep: Option<Pair>) -> Verdict
-    requires { Checkable group k c }
-    ensures { result ≡ verdict group k c m keep }
-{
-    match keep {
-        None => Verdict::Silent,
-        Some(pair) => on_pair(group, k, c, m, pair),
+    // On what box m + 1 says.
+    pub(crate) fn verdict_on(&self, m: usize) -> Verdict
+        requires { m < self.now.n }
+        ensures { result ≡ verdict_on self.now m }
+    {
+        match self.shares[m] {
+            None => Verdict::Silent,
+            Some(pair) => self.on_pair(m as u16 + 1, pair),
+        }
     }
-}
 
-fn if_verified(group: Group, k: usize, c: [[Element; 8]; 8], m: u16, keep: Option<Pair>) -> Option<Pair>
-    requires { Checkable group k c }
-    ensures { result ≡ verified_keep group k c m keep }
-{
-    let verdict = on(group, k, c, m, keep);
-    match verdict {
-        Verdict::Silent => None,
-        Verdict::Verified => keep,
-        Verdict::Refused(_) => None,
+    // What box m + 1 says, if that is verified.
+    #[tactic(auto, unfolding(crate::specs::Verdicts::verified_on))]
+    fn verified_on(&self, m: usize) -> Option<Pair>
+        requires { m < self.now.n }
+        ensures { result ≡ verified_on self.now m }
+    {
+        match self.verdict_on(m) {
+            Verdict::Verified => self.shares[m],
+            Verdict::Silent | Verdict::Refused(_) => None,
+        }
     }
-}
 
-// The shares of boxes 1 to n that pass; of the others nothing.
-pub fn verified_shares(
-    group: Group,
-    k: usize,
-    c: [[Element; 8]; 8],
-    n: usize,
-    shares: [Option<Pair>; 10],
-) -> [Option<Pair>; 10]
-    requires { Checkable group k c × (n ≤ 10) }
-    ensures { result ≡ verified_shares group k c n shares }
-{
-    let nothing = None;
-    let mut made = [nothing; SetUp::BOXES];
-    let mut m: usize = 0;
-    let mut number: u16 = 1;
-    while m < n {
-        let said = shares[m];
-        let keep = if_verified(group, k, c, number, said);
-        made[m] = keep;
-        m += 1;
-        number += 1;
+    // The shares of boxes 1 to n that pass; of the others nothing.
+    #[tactic(auto, using(folds::specs::Loops::filling_none, folds::specs::Loops::filling_more, folds::specs::Loops::filling_all), unfolding(rules::specs::Sheet::verified_shares, crate::specs::Verdicts::verified_on))]
+    pub(crate) fn verified_shares(&self) -> [Option<Pair>; 10]
+        ensures { result ≡ verified_shares self.now.group self.now.k self.now.c self.now.n self.now.shares }
+    {
+        let mut made = [None; SetUp::BOXES];
+        for m in 0..self.n {
+            made[m] = self.verified_on(m);
+        }
+        made
     }
-    made
 }

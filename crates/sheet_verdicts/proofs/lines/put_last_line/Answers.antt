@@ -1,5 +1,4 @@
--- `put_last_line` puts the last line, from the shares that are verified. Assumes nothing.
-use Rattle.std.proofs.Common.{rules, ◌≡◌, ℕ, ◌<◌, ◌≤◌, List, ◌++◌, length, take, length-take, map, sym, ap, ◌∙◌, arith}
+use Rattle.std.proofs.Common.{rules, ◌≡◌, ℕ, ◌<◌, ◌≤◌, List, ◌++◌, length, take, length-take, length-take-le, map, sym, ap, ◌∙◌, arith}
 use lib.ListN.{get_or}
 use borrow.Author.Tests.{lt-ltb, le-ltb}
 use Rattle.folds.specs.Runs.{gather, gather-same}
@@ -8,10 +7,11 @@ use Rattle.rules.specs.Steps.{Said, share_points, recovered_from}
 use Rattle.rules.specs.Text.{text, decimal}
 use Rattle.rules.specs.Sheet.{secret_line, no_secret_line, last_line}
 use Rattle.interpolation.specs.declared.Points.{Points}
-use Rattle.interpolation.specs.Points.{nothing, boxes_of}
-use Rattle.interpolation.proofs.Values.{map_is}
+use Rattle.interpolation.specs.Points.{nothing}
+use Rattle.interpolation.proofs.Values.{number_at}
 use Rattle.record_points.specs.Points.{points_of, boxes_in, in_array_at}
-use Rattle.sheet_verdicts.specs.Lines.{boxes_text, secret_text}
+use Rattle.text.specs.Pages.{adds_room, numbers_of, numbers_of_map}
+use Rattle.sheet_verdicts.specs.Lines.{secret_text}
 use Rattle.sheet_verdicts.proofs.lines.put_last_line.Goals as goal
 
 -- the k lowest of the verified shares, as the code has them
@@ -26,37 +26,42 @@ module _ (q k : ℕ) (ps : List (Said Pair)) (all : Points) (found : all ≡ poi
       let all-of-them : length ps ≡ all.count = omega (arith, count_is, length-take k ps) in
       rw (lt-ltb (length ps) k (omega arith)) (ap (λ v. no_secret_line v k) all-of-them)
 
-  boxes-same : k ≤ 8 → gather (length (take k ps)) (λ j. text " " ++ decimal (get_or (map (λ p. p.box) (take k ps)) j 0)) ≡ boxes_text all.count (boxes_of all)
-  unfolding points_of boxes_text
-  boxes-same h =
-      rw found
-      (gather-same _ _ (length (take k ps))
-      (λ j l. ap (λ (n : ℕ). text " " ++ decimal n) (sym (ap (λ (b : List ℕ). get_or b j 0) (boxes_in (take k ps)) ∙ in_array_at 0 (λ p. p.box) (take k ps) (omega (arith, length-take k ps)) j l))))
+  number : k ≤ 8 → (j : ℕ) → j < length (take k ps) → (get_or all.said j nothing).number ≡ get_or (map (λ p. p.box) (take k ps)) j 0
+  number h j l =
+      number_at all j
+      ∙ ap (λ (p : Points). get_or (map (λ s. s.number) p.said) j 0) found
+      ∙ ap (λ (b : List ℕ). get_or b j 0) (boxes_in (take k ps))
+      ∙ in_array_at 0 (λ p. p.box) (take k ps) (omega (arith, length-take k ps)) j l
 
-  enough : k ≤ 8 → k ≤ all.count → last_line q k ps ≡ secret_text (recovered_from q (take k ps)) all.count (boxes_of all)
+  enough : k ≤ 8 → k ≤ all.count → (boxes : List ℕ) → numbers_of boxes ≡ gather all.count (λ j. text " " ++ decimal (get_or all.said j nothing).number)
+      → secret_text (recovered_from q (take k ps)) boxes ≡ last_line q k ps
   unfolding last_line secret_line secret_text
-  enough h l =
+  enough h l boxes e =
       let s = recovered_from q (take k ps) in
-      rw (le-ltb (length ps) k (omega (arith, count_is, length-take k ps)))
+      rw (le-ltb (length ps) k (omega (arith, count_is, length-take k ps)), e, count_is)
       (ap
       (λ (t : List ℕ). text "secret " ++ decimal s.first.0 ++ text " " ++ decimal s.second.0 ++ text " from" ++ t ++ text "\n")
-      (boxes-same h))
+      (gather-same _ _ (length (take k ps)) (λ j b. ap (λ (n : ℕ). text " " ++ decimal n) (number h j b))))
 
-pub returns-then-count-k : goal.returns-then-count-k
-returns-then-count-k c =
-    rw (too_few c.args.q c.args.k (share_points c.args.verified) c.points_kept-all.result c.points_kept-all.ensures c.if-count-k.true)
-    c.put_no_secret.ensures
+pub slice_bounds-put_secret-end : goal.slice_bounds-put_secret-end
+slice_bounds-put_secret-end g c =
+    omega (arith, c.map.ensures.items.long, count_is c.args.q c.args.k (share_points c.args.verified) c.points_kept-all.result c.points_kept-all.ensures, length-take c.args.k (share_points c.args.verified))
 
-pub put_secret-requires : goal.put_secret-requires
-put_secret-requires c =
+pub slice_bounds-put_secret-end-else-all-k : goal.slice_bounds-put_secret-end-else-all-k
+slice_bounds-put_secret-end-else-all-k g c =
+    sym (length-take-le c.points_kept-all.result.count c.map.result
+    (omega (arith, c.map.ensures.items.long, count_is c.args.q c.args.k (share_points c.args.verified) c.points_kept-all.result c.points_kept-all.ensures, length-take c.args.k (share_points c.args.verified))))
+
+pub returns-then-all-k : goal.returns-then-all-k
+returns-then-all-k g c =
+    rw (too_few c.args.q c.args.k (share_points c.args.verified) c.points_kept-all.result c.points_kept-all.ensures c.if-all-k.true)
+    (adds_room c.put_no_secret.ensures (omega arith))
+
+pub returns-else-all-k : goal.returns-else-all-k
+returns-else-all-k g c =
+    let all = c.points_kept-all.result in
     let ps = share_points c.args.verified in
-    (omega (arith, count_is c.args.q c.args.k ps c.points_kept-all.result c.points_kept-all.ensures, length-take c.args.k ps), omega arith)
-
-pub returns : goal.returns
-returns c =
-    let boxes : c.map.result ≡ boxes_of c.points_kept-all.result =
-    map_is (λ s. s.number) nothing c.points_kept-all.result.said c.map.result (search rules) c.map.ensures.items.long
-    (λ i l. let called = c.map.ensures.items.at i nothing 0 l in search rules) in
-    rw
-    (enough c.args.q c.args.k (share_points c.args.verified) c.points_kept-all.result c.points_kept-all.ensures c.requires.high c.if-count-k.false)
-    (rw (c.recovered_from-pair.ensures, boxes) at c.put_secret.ensures)
+    let few : all.count ≤ 8 = omega (arith, count_is c.args.q c.args.k ps all c.points_kept-all.ensures, length-take c.args.k ps) in
+    let boxes = numbers_of_map (λ s. s.number) nothing all.count c.map.ensures.items few (λ p q x y k. search rules) in
+    rw (enough c.args.q c.args.k ps all c.points_kept-all.ensures c.requires.1 c.if-all-k.false (take all.count c.map.result) boxes.0) at
+    (rw c.recovered_from-pair.ensures at c.put_secret.ensures)
