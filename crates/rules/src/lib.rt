@@ -1,8 +1,8 @@
 // Document 01's declared types and constants. What every call answers, leaves and writes is defined over them in specs/.
 #![tactic(auto)]
 
-ghost use Rattle.std.specs.Prelude.{◌≡◌, ◌<◌, ◌≤◌, get_or};
-ghost use Rattle.rules.specs.Numbers.{groups, no_group, echo_quorum};
+ghost use Rattle.std.specs.Prelude.{◌≡◌, ℕ, ◌<◌, ◌≤◌, get_or};
+ghost use Rattle.rules.specs.Numbers.{exponent, element, groups, no_group, echo_quorum};
 ghost use Rattle.rules.specs.Messages.{side_tag};
 ghost use Rattle.rules.specs.Refusals.{refusal_number};
 
@@ -15,6 +15,47 @@ pub struct Exponent(pub u16);
 // A group element counts modulo p.
 #[derive(Clone, Copy, PartialEq, Eq)]
 pub struct Element(pub u16);
+
+// A two-byte number of either kind: what reading and writing do alike to an exponent and an element.
+pub trait Number: Copy {
+    ghost wrap: { ℕ → Self };
+
+    ghost value: { Self → ℕ };
+
+    fn new(x: u16) -> Self
+        ensures { result ≡ wrap x };
+
+    fn get(self) -> u16
+        ensures { result ≡ value self };
+}
+
+impl Number for Exponent {
+    ghost wrap = { exponent };
+
+    ghost value = { λ e. e.0 };
+
+    fn new(x: u16) -> Exponent {
+        Exponent(x)
+    }
+
+    fn get(self) -> u16 {
+        self.0
+    }
+}
+
+impl Number for Element {
+    ghost wrap = { element };
+
+    ghost value = { λ e. e.0 };
+
+    fn new(x: u16) -> Element {
+        Element(x)
+    }
+
+    fn get(self) -> u16 {
+        self.0
+    }
+}
 
 // A row of the table of groups.
 #[derive(Clone, Copy)]
