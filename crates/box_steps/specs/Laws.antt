@@ -19,7 +19,8 @@ use Rattle.rules.specs.declared.Side.{Side}
 use Rattle.rules.specs.declared.Slot.{Slot}
 use Rattle.rules.specs.Numbers.{group_of}
 use Rattle.rules.specs.Matrices.{to_boxes}
-use Rattle.rules.specs.Messages.{Message, bytes_of, to_each, side_tag}
+use Rattle.rules.specs.declared.Message.{Message}
+use Rattle.rules.specs.Messages.{bytes_of, to_each, side_tag}
 use Rattle.rules.specs.Dealing.{coins_keep}
 use Rattle.rules.specs.Record.{slot_at, heard_for, shares_kept}
 use Rattle.rules.specs.Steps.{heard, own_slot, free_slot, slot_for, opened, taken, with_slot, lowest, ready_sent, quiet, completed, ready_due, completion_due, point_at, point_step, sending, share_step, recovering, sharing, Step}

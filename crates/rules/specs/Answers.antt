@@ -13,7 +13,9 @@ use Rattle.rules.specs.declared.Sent.TheVariants.{Nothing}
 use Rattle.rules.specs.declared.Answer.{Answer}
 use Rattle.rules.specs.declared.Outcome.{Outcome}
 use Rattle.rules.specs.Numbers.{exponent, group_of, group_keeps, numbers_keep, is_box}
-use Rattle.rules.specs.Messages.{Message, send, echo, ready, recovery, tag_in, has_matrix, malformed, foreign, message_in, matrix_in, written}
+use Rattle.rules.specs.declared.Message.{Message}
+use Rattle.rules.specs.declared.Message.TheVariants.{Send as send, Echo as echo, Ready as ready, Recovery as recovery}
+use Rattle.rules.specs.Messages.{tag_in, has_matrix, malformed, foreign, message_in, matrix_in, written}
 use Rattle.rules.specs.Dealing.{coins_keep, matrix_passes, polynomials_below, four_below, pair_below, polynomial_check, point_check, share_check}
 use Rattle.rules.specs.Record.{group_in, slot_at, heard_for, matrix_of, new_record, zero_record, sound}
 use Rattle.rules.specs.Steps.{Step, heard, message_step, deal_step, recover_step, quiet}

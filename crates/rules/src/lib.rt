@@ -157,6 +157,15 @@ pub struct Pair {
     pub second: Exponent,
 }
 
+// What a message says behind its dealer and session.
+#[derive(Clone, Copy)]
+pub enum Message {
+    Send([[Element; 8]; 8], Polynomials),
+    Echo([[Element; 8]; 8], Four),
+    Ready([[Element; 8]; 8], Four),
+    Recovery(Pair),
+}
+
 // ---- The record
 
 // A place for a sender is silent or holds the four numbers.

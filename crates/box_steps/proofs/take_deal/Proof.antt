@@ -4,7 +4,7 @@ use native.Mathlib.Omega.{arith}
 use borrow.Author.Rules.{rules}
 use Rattle.rules.specs.declared.Sent.TheVariants.{Send}
 use Rattle.rules.specs.Matrices.{to_boxes}
-use Rattle.rules.specs.Messages.{send}
+use Rattle.rules.specs.declared.Message.TheVariants.{Send as send}
 use Rattle.rules.specs.Dealing.{f_of, f'_of, commitment, polynomials_of}
 use Rattle.rules.specs.Record.{group_in}
 use Rattle.rules.specs.Steps.{deal_step}

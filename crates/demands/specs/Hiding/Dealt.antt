@@ -14,7 +14,8 @@ use Rattle.rules.specs.declared.Record.{Record}
 use Rattle.rules.specs.declared.SetUp.{SetUp}
 use Rattle.rules.specs.Numbers.{exponent}
 use Rattle.rules.specs.Matrices.{coefficient}
-use Rattle.rules.specs.Messages.{send, tag_of, bytes_of}
+use Rattle.rules.specs.declared.Message.TheVariants.{Send as send}
+use Rattle.rules.specs.Messages.{tag_of, bytes_of}
 use Rattle.rules.specs.Dealing.{polynomials_below, coins_keep, f_of, f'_of, from_coins}
 use Rattle.rules.specs.Record.{sound}
 use Rattle.rules.specs.Steps.{deal_step}

@@ -17,7 +17,9 @@ use Rattle.rules.specs.declared.Record.{Record}
 use Rattle.rules.specs.declared.SetUp.{SetUp}
 use Rattle.rules.specs.declared.Slot.{Slot}
 use Rattle.rules.specs.Numbers.{is_box}
-use Rattle.rules.specs.Messages.{Message, send, echo, ready, recovery, tag_in, has_matrix, message_in, matrix_in, polynomials_in, four_in, whole_length, malformed}
+use Rattle.rules.specs.declared.Message.{Message}
+use Rattle.rules.specs.declared.Message.TheVariants.{Send as send, Echo as echo, Ready as ready, Recovery as recovery}
+use Rattle.rules.specs.Messages.{tag_in, has_matrix, message_in, matrix_in, polynomials_in, four_in, whole_length, malformed}
 use Rattle.rules.specs.Dealing.{matrix_passes, share_check}
 use Rattle.rules.specs.Record.{group_in, slot_at, heard_for, matrix_of, sound}
 use Rattle.rules.specs.Steps.{heard, own_slot, free_slot, slot_for, opened, message_step, point_step, taken, ready_due}

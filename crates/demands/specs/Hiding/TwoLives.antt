@@ -14,7 +14,8 @@ use Rattle.rules.specs.declared.Answer.{Answer}
 use Rattle.rules.specs.declared.Record.{Record}
 use Rattle.rules.specs.declared.SetUp.{SetUp}
 use Rattle.rules.specs.Numbers.{is_box}
-use Rattle.rules.specs.Messages.{Message, bytes_of}
+use Rattle.rules.specs.declared.Message.{Message}
+use Rattle.rules.specs.Messages.{bytes_of}
 use Rattle.rules.specs.Dealing.{coins_keep}
 use Rattle.rules.specs.Record.{zero_slot, new_record, sound}
 use Rattle.rules.specs.Steps.{recover_step}
