@@ -98,7 +98,7 @@ fn put_opening(out: &mut [u8], u: SetUp, tag: u8, end: u8, c: [[Element; 8]; 8])
     ensures { Puts 0 (end_place u) (opening_bytes u tag end c) out.old out.new result × (result ≤ 135) }
 {
     let k = u.k as usize;
-    let size = 4 + 2 * (k * k) + end as usize;
+    let size = 4 + 2 * (k * k) + usize::from(end);
     let second = put_head(out, u, tag, size as u16);
     let third = put_byte(out, second, u.k as u8);
     put_matrix(out, third, c, k)

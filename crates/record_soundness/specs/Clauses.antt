@@ -1,5 +1,6 @@
 -- What the tests over the whole record name beside the definitions of `rules`.
 -- Assumes nothing.
+use Rattle.rules.specs.declared.Pair.{Pair}
 use Rattle.std.specs.Prelude.{Bool, not, List, map, ℕ, eqb, leb, ltb, get_or}
 use Rattle.folds.specs.Tests.{◌and◌, ◌or◌, same, implies, pick}
 use Rattle.folds.specs.Below.{all_below, any_below, count_below}
@@ -7,24 +8,26 @@ use Rattle.std.specs.Prelude.{Option, Some, None, is_some}
 use Rattle.rules.specs.declared.Marks.{Marks}
 use Rattle.rules.specs.declared.Record.{Record}
 use Rattle.rules.specs.declared.Slot.{Slot}
+use Rattle.rules.specs.declared.Side.{Side}
+use Rattle.rules.specs.declared.Side.TheVariants.{ByEcho, ByReady}
+use Rattle.record_reading.specs.Slots.{slot_in}
 use Rattle.rules.specs.Dealing.{pair_below}
-use Rattle.rules.specs.Record.{no_marks, marked, held, share_at, shares_kept, kept_below, sender_zero}
+use Rattle.rules.specs.declared.Group.{Group}
+use Rattle.rules.specs.Record.{no_marks, marked, held, share_at, shares_kept, kept_below, sender_zero, marks_keep, completion_keeps, dealt_keeps}
+use Rattle.record_clauses.specs.Clauses.{every_slot, slot_keeps, all_differ}
 
--- one kind of mark, for echo by tag 2 and else for ready: of a slot, and of each
-abbrev pub marks_for : ℕ → Slot → Marks
-marks_for tag slot = pick (eqb tag 2) slot.echoed slot.readied
+-- sender m + 1 is marked for this side in a slot
+abbrev pub mark_of : Side → Slot → ℕ → Bool
+mark_of ByEcho slot m = marked slot.echoed m
+mark_of ByReady slot m = marked slot.readied m
 
-unfoldable pub marks_in : ℕ → List Slot → List Marks
-marks_in tag slots = map (marks_for tag) slots
+-- and is so under at most one matrix, and then is heard
+unfoldable pub mark_keeps : List Slot → Side → Marks → ℕ → Bool
+mark_keeps slots b heard m =
+    leb (count_below 20 (λ s. mark_of b (slot_in slots s) m)) 1 and implies (any_below 20 (λ s. mark_of b (slot_in slots s) m)) (marked heard m)
 
-abbrev pub mark_in : List Marks → ℕ → ℕ → Bool
-mark_in marks m s = marked (get_or marks s no_marks) m
-
-unfoldable pub marked_under : List Marks → ℕ → ℕ
-marked_under marks m = count_below 20 (mark_in marks m)
-
-unfoldable pub kind_keeps : List Marks → Marks → Bool
-kind_keeps marks heard = all_below 10 (λ m. leb (marked_under marks m) 1 and implies (any_below 20 (mark_in marks m)) (marked heard m))
+unfoldable pub kind_keeps : List Slot → Side → Marks → Bool
+kind_keeps slots b heard = all_below 10 (mark_keeps slots b heard)
 
 -- of a recovery share: "stored exponents are below q", "kept recovery shares a command", "their senders alone are heard for tag 4"
 abbrev pub share_keeps : ℕ → Bool → Bool → Option Pair → Bool
@@ -50,3 +53,14 @@ heard_clear heard m = all_below 4 (λ t. not (marked (get_or heard t no_marks) m
 
 unfoldable pub senders_clear : Record → Bool
 senders_clear x = all_below 10 (λ m. ltb m x.setup.n or sender_zero x m)
+
+-- the tests in the code's order, behind those of the group and of the numbers
+unfoldable pub tests_pass : Group → Record → Bool
+tests_pass G x =
+    every_slot x.slots (slot_keeps G x.setup)
+    and all_differ x.setup.k x.slots
+    and marks_keep x
+    and completion_keeps x x.progress.completion
+    and recovery_passes G.q x
+    and dealt_keeps x
+    and senders_clear x

@@ -2,10 +2,11 @@
 --
 -- In order: the tests; those of one slot, from its test and back; those of recovery, and back; those of a sound record, and back.
 -- Assumes nothing.
+use Rattle.rules.specs.declared.Pair.{Pair}
 use Rattle.std.specs.Prelude.{◌≡◌, refl, Bool, true, false, not, ℕ, ◌<◌, eqb, leb}
 use Rattle.std.proofs.Common.{ap}
 use Rattle.std.proofs.lemmas.Bool.{not-true}
-use Rattle.folds.specs.Tests.{◌and◌, same, implies, and_left, and_right, and_intro, same_eq, eq_same}
+use Rattle.folds.specs.Tests.{◌and◌, same, implies, and_left, and_right, and_intro, same_eq, eq_same, iff_same}
 use Rattle.folds.specs.Below.{all_below, all_below_at, all_below_all}
 use Rattle.std.specs.Prelude.{Option, Some, None, is_some}
 use Rattle.rules.specs.declared.Record.{Record}
@@ -14,7 +15,7 @@ use Rattle.rules.specs.Numbers.{group_keeps, numbers_keep}
 use Rattle.rules.specs.Record.{group_in, slot_at, share_at, heard_for, shares_kept, kept_below, setup_keeps, slot_below, exponents_below, matrices_differ, matrices_pass, marks_keep, places_keep, use_keeps, pair_keeps, completion_keeps, recovery_keeps, dealt_keeps, entries_zero, unused_zero, sound}
 use Rattle.rules.proofs.Laws.Clauses.{clauses, is_sound}
 use Rattle.record_clauses.specs.Clauses.{every_slot, slot_keeps, passes_in, differ_from, all_differ}
-use Rattle.record_soundness.specs.Clauses.{share_keeps, shares_keep, recovery_passes, senders_clear}
+use Rattle.record_soundness.specs.Clauses.{share_keeps, shares_keep, recovery_passes, senders_clear, tests_pass}
 
 pub record Tests (x : Record) : Type 0 where
   pub group : group_keeps x.setup ≡ true
@@ -184,3 +185,35 @@ tests_sound x t =
       dealt = t.dealt;
       zero = and_intro _ _ (all_below_all _ 20 (λ s l. (at s l).zero)) t.senders;
     })
+
+-- ---- the tests in the code's order are the sentence
+
+module _ (x : Record) where
+  pub sound_is : sound x ≡ (group_keeps x.setup and numbers_keep x.setup and tests_pass (group_in x) x)
+  unfolding tests_pass
+  sound_is = iff_same (sound x) (group_keeps x.setup and numbers_keep x.setup and tests_pass (group_in x) x) there back
+    where
+      there : sound x ≡ true → (group_keeps x.setup and numbers_keep x.setup and tests_pass (group_in x) x) ≡ true
+      there h = let t = tests x h in rw (t.group, t.numbers, t.slots, t.differ, t.marks, t.completion, t.recovery, t.dealt) t.senders
+
+      back : (group_keeps x.setup and numbers_keep x.setup and tests_pass (group_in x) x) ≡ true → sound x ≡ true
+      back h =
+          let h1 = and_right (group_keeps x.setup) _ h in
+          let h2 = and_right (numbers_keep x.setup) _ h1 in
+          let h3 = and_right (every_slot x.slots (slot_keeps (group_in x) x.setup)) _ h2 in
+          let h4 = and_right (all_differ x.setup.k x.slots) _ h3 in
+          let h5 = and_right (marks_keep x) _ h4 in
+          let h6 = and_right (completion_keeps x x.progress.completion) _ h5 in
+          let h7 = and_right (recovery_passes (group_in x).q x) _ h6 in
+          tests_sound x
+          (record {
+            group = and_left _ _ h;
+            numbers = and_left _ _ h1;
+            slots = and_left _ _ h2;
+            differ = and_left _ _ h3;
+            marks = and_left _ _ h4;
+            completion = and_left _ _ h5;
+            recovery = and_left _ _ h6;
+            dealt = and_left _ _ h7;
+            senders = and_right (dealt_keeps x) _ h7;
+          })

@@ -2,110 +2,63 @@
 ghost use Rattle.std.specs.Prelude.{◌≡◌, ◌+◌, ◌≤◌, ◌<◌};
 ghost use Rattle.rules.specs.Record.{marks_keep, completion_keeps, dealt_keeps, sender_zero};
 ghost use Rattle.record_clauses.specs.Clauses.{every_slot};
-ghost use Rattle.record_soundness.specs.Clauses.{marks_for, marks_in, marked_under, kind_keeps, share_keeps, shares_keep, recovery_passes, slot_clear, heard_clear, senders_clear};
+ghost use Rattle.record_soundness.specs.Clauses.{mark_of, mark_keeps, kind_keeps, share_keeps, shares_keep, recovery_passes, slot_clear, heard_clear, senders_clear};
 
-use rules::{Marks, Pair, Record, SetUp, Slot};
+use record_reading::{count_marks, count_shares, is_held};
+use rules::{Marks, Pair, Record, SetUp, Side, Slot};
 
 // ---- a sender is marked for echo or ready under at most one matrix each, and then is heard for that tag
 
-// For echo by tag 2, else for ready.
-fn marks_of(slot: Slot, tag: u8) -> Marks
-    ensures { result ≡ marks_for tag slot }
-{
-    if tag == 2 {
-        return slot.echoed;
-    }
-    slot.readied
-}
-
-fn marks_in(slots: [Slot; 20], tag: u8) -> [Marks; 20]
-    ensures { result ≡ marks_in tag slots }
-{
-    let none = Marks { at: [false; 10] };
-    let mut made = [none; 20];
-    let mut s: usize = 0;
-    while s < SetUp::SLOTS {
-        let slot = slots[s];
-        let marks = marks_of(slot, tag);
-        made[s] = marks;
-        s += 1;
-    }
-    made
-}
-
-// Under how many matrices sender m is marked.
-fn marked_under(marks: [Marks; 20], m: usize) -> u32
+fn is_marked(slot: Slot, side: Side, m: usize) -> bool
     requires { m < 10 }
-    ensures { result ≡ marked_under marks m }
+    ensures { result ≡ mark_of side slot m }
 {
-    let mut n: u32 = 0;
-    let mut s: usize = 0;
-    while s < SetUp::SLOTS {
-        let here = marks[s];
-        if here.at[m] {
-            n += 1;
-        }
-        s += 1;
+    match side {
+        Side::ByEcho => slot.echoed.at[m],
+        Side::ByReady => slot.readied.at[m],
     }
-    n
 }
 
-fn kind_keeps(marks: [Marks; 20], heard: Marks) -> bool
-    ensures { result ≡ kind_keeps marks heard }
+fn mark_keeps(slots: &[Slot; 20], side: Side, heard: Marks, m: usize) -> bool
+    requires { m < 10 }
+    ensures { result ≡ mark_keeps slots.now side heard m }
 {
-    let mut m: usize = 0;
-    while m < SetUp::BOXES {
-        let n = marked_under(marks, m);
-        if 1 < n {
-            return false;
-        }
-        if n == 1 {
-            if !heard.at[m] {
-                return false;
-            }
-        }
-        m += 1;
-    }
-    true
+    let under = slots
+        .iter()
+        .filter(|slot| is_marked(**slot, side, m))
+        .count();
+    under == 0 || under == 1 && heard.at[m]
+}
+
+fn kind_keeps(slots: &[Slot; 20], side: Side, heard: Marks) -> bool
+    ensures { result ≡ kind_keeps slots.now side heard }
+{
+    (0..SetUp::BOXES).all(|m| mark_keeps(slots, side, heard, m))
 }
 
 // Of echoes, and of readies.
+#[tactic(auto, unfolding(rules::specs::Record::marks_keep, crate::specs::Clauses::kind_keeps, crate::specs::Clauses::mark_keeps))]
 pub fn marks_keep(x: Record) -> bool
     ensures { result ≡ marks_keep x }
 {
-    let slots = x.slots;
-    let echoed = marks_in(slots, 2);
-    let heard_echo = x.heard[1];
-    if !kind_keeps(echoed, heard_echo) {
-        return false;
-    }
-    let readied = marks_in(slots, 3);
-    let heard_ready = x.heard[2];
-    kind_keeps(readied, heard_ready)
+    kind_keeps(&x.slots, Side::ByEcho, x.heard[1])
+        && kind_keeps(&x.slots, Side::ByReady, x.heard[2])
 }
 
 // ---- a completed box has one completed matrix in use, with r ≥ k + t
 
 // A box that has not completed breaks nothing.
+#[tactic(auto, unfolding(rules::specs::Record::count_r, record_reading::specs::Slots::count_marks))]
 pub fn completion_keeps(x: Record) -> bool
     requires { x.setup.k + x.setup.t ≤ 20 }
     ensures { result ≡ completion_keeps x x.progress.completion }
 {
-    let progress = x.progress;
-    let completion = progress.completion;
-    match completion {
+    match x.progress.completion {
         None => true,
         Some(s) => {
-            if SetUp::SLOTS <= s {
-                return false;
-            }
-            let slot = x.slots[s];
-            if !slot.used {
-                return false;
-            }
-            let u = x.setup;
-            let readied = slot.readied;
-            u.k + u.t <= record_reading::count_marks(readied)
+            s < SetUp::SLOTS
+                && x.slots[s].used
+                && x.setup.k + x.setup.t <= count_marks(x.slots[s].readied)
         }
     }
 }
@@ -126,48 +79,30 @@ fn share_keeps(q: u16, commanded: bool, heard: bool, share: Option<Pair>) -> boo
 fn shares_keep(q: u16, commanded: bool, heard: Marks, shares: [Option<Pair>; 10]) -> bool
     ensures { result ≡ shares_keep q commanded heard shares }
 {
-    let mut m: usize = 0;
-    while m < SetUp::BOXES {
-        let share = shares[m];
-        if !share_keeps(q, commanded, heard.at[m], share) {
-            return false;
-        }
-        m += 1;
-    }
-    true
+    (0..SetUp::BOXES).all(|m| share_keeps(q, commanded, heard.at[m], shares[m]))
 }
 
 // With the numbers of the shares and of the recovered pair; the slots' are tested with each slot.
+#[tactic(auto, unfolding(crate::specs::Clauses::recovery_passes))]
 pub fn recovery_keeps(q: u16, x: Record) -> bool
     ensures { result ≡ recovery_passes q x }
 {
-    let progress = x.progress;
-    let completion = progress.completion;
-    let shares = x.shares;
-    let heard = x.heard[3];
-    let recovered = x.recovered;
-    let u = x.setup;
-    let n = record_reading::count_shares(shares);
-    let given = recovered.is_some();
-    (!progress.commanded || completion.is_some())
-        && shares_keep(q, progress.commanded, heard, shares)
-        && n <= u.k
-        && given == (n == u.k)
-        && record_clauses::kept_below(q, recovered)
+    let kept = count_shares(x.shares);
+    (!x.progress.commanded || x.progress.completion.is_some())
+        && shares_keep(q, x.progress.commanded, x.heard[3], x.shares)
+        && kept <= x.setup.k
+        && x.recovered.is_some() == (kept == x.setup.k)
+        && record_clauses::kept_below(q, x.recovered)
 }
 
 // ---- only box d has dealt
 
 // A box that has not dealt breaks nothing.
+#[tactic(auto, unfolding(rules::specs::Record::dealt_keeps))]
 pub fn dealt_keeps(x: Record) -> bool
     ensures { result ≡ dealt_keeps x }
 {
-    let progress = x.progress;
-    if !progress.dealt {
-        return true;
-    }
-    let u = x.setup;
-    u.i == u.d
+    !x.progress.dealt || x.setup.i == x.setup.d
 }
 
 // ---- unused places are zero
@@ -177,73 +112,34 @@ fn slot_clear(slot: Slot, m: usize) -> bool
     requires { m < 10 }
     ensures { result ≡ slot_clear m slot }
 {
-    let place = slot.places[m];
-    let echoed = slot.echoed;
-    let readied = slot.readied;
-    !record_reading::is_held(place) && !echoed.at[m] && !readied.at[m]
+    !is_held(slot.places[m]) && !slot.echoed.at[m] && !slot.readied.at[m]
 }
 
-fn slots_clear(slots: [Slot; 20], m: usize) -> bool
+fn slots_clear(slots: &[Slot; 20], m: usize) -> bool
     requires { m < 10 }
-    ensures { result ≡ every_slot slots (slot_clear m) }
+    ensures { result ≡ every_slot slots.now (slot_clear m) }
 {
-    let mut s: usize = 0;
-    while s < SetUp::SLOTS {
-        let slot = slots[s];
-        if !slot_clear(slot, m) {
-            return false;
-        }
-        s += 1;
-    }
-    true
+    slots.iter().all(|slot| slot_clear(*slot, m))
 }
 
-fn heard_clear(heard: [Marks; 4], m: usize) -> bool
+fn heard_clear(heard: &[Marks; 4], m: usize) -> bool
     requires { m < 10 }
-    ensures { result ≡ heard_clear heard m }
+    ensures { result ≡ heard_clear heard.now m }
 {
-    let mut t: usize = 0;
-    while t < 4 {
-        let marks = heard[t];
-        if marks.at[m] {
-            return false;
-        }
-        t += 1;
-    }
-    true
+    heard.iter().all(|marks| !marks.at[m])
 }
 
+#[tactic(auto, unfolding(rules::specs::Record::sender_zero, record_clauses::specs::Clauses::every_slot, crate::specs::Clauses::heard_clear))]
 fn sender_zero(x: Record, m: usize) -> bool
     requires { m < 10 }
     ensures { result ≡ sender_zero x m }
 {
-    let slots = x.slots;
-    if !slots_clear(slots, m) {
-        return false;
-    }
-    let heard = x.heard;
-    if !heard_clear(heard, m) {
-        return false;
-    }
-    let share = x.shares[m];
-    !share.is_some()
+    slots_clear(&x.slots, m) && heard_clear(&x.heard, m) && x.shares[m].is_none()
 }
 
 // Of each sender above n.
 pub fn senders_zero(x: Record) -> bool
     ensures { result ≡ senders_clear x }
 {
-    let u = x.setup;
-    let mut number: u32 = 0;
-    let mut m: usize = 0;
-    while m < SetUp::BOXES {
-        if u.n <= number {
-            if !sender_zero(x, m) {
-                return false;
-            }
-        }
-        m += 1;
-        number += 1;
-    }
-    true
+    (0..SetUp::BOXES).all(|m| m < x.setup.n as usize || sender_zero(x, m))
 }

@@ -3,10 +3,12 @@
 
 pub mod clauses;
 
-ghost use Rattle.std.specs.Prelude.{◌≡◌};
+ghost use Rattle.std.specs.Prelude.{◌≡◌, ◌<◌};
 ghost use Rattle.rules.specs.Record.{sound};
+ghost use Rattle.rules.specs.Laws.Numbers.{Sizes};
+ghost use Rattle.record_soundness.specs.Clauses.{tests_pass};
 
-use rules::Record;
+use rules::{Group, Record};
 
 // The one soundness test of a call: the numbers first, then each slot once, then what speaks of several slots or of the rest.
 pub fn is_sound(x: Record) -> bool
@@ -16,28 +18,20 @@ pub fn is_sound(x: Record) -> bool
     if !session_numbers::group_keeps(u) {
         return false;
     }
-    if !session_numbers::numbers_keep(u) {
-        return false;
-    }
-    let group = session_numbers::group_of(u);
-    let all = x.slots;
-    if !record_clauses::slots_keep(group, u, all) {
-        return false;
-    }
-    if !record_clauses::matrices_differ(u.k as usize, all) {
-        return false;
-    }
-    if !clauses::marks_keep(x) {
-        return false;
-    }
-    if !clauses::completion_keeps(x) {
-        return false;
-    }
-    if !clauses::recovery_keeps(group.q, x) {
-        return false;
-    }
-    if !clauses::dealt_keeps(x) {
-        return false;
-    }
-    clauses::senders_zero(x)
+    session_numbers::numbers_keep(u) && tests_pass(session_numbers::group_of(u), x)
+}
+
+// What is tested behind the group and the numbers, under which it needs no test of its own.
+#[tactic(auto, unfolding(crate::specs::Clauses::tests_pass))]
+fn tests_pass(group: Group, x: Record) -> bool
+    requires { (0 < group.p) × Sizes x.setup.n x.setup.t x.setup.k }
+    ensures { result ≡ tests_pass group x }
+{
+    record_clauses::slots_keep(group, x.setup, x.slots)
+        && record_clauses::matrices_differ(x.setup.k as usize, x.slots)
+        && clauses::marks_keep(x)
+        && clauses::completion_keeps(x)
+        && clauses::recovery_keeps(group.q, x)
+        && clauses::dealt_keeps(x)
+        && clauses::senders_zero(x)
 }
