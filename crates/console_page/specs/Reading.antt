@@ -12,7 +12,9 @@ use Rattle.rules.specs.declared.Polynomials.{Polynomials}
 use Rattle.rules.specs.declared.SetUp.{SetUp}
 use Rattle.rules.specs.Numbers.{element}
 use Rattle.rules.specs.Matrices.{coefficient, α, α', β, β'}
-use Rattle.rules.specs.Messages.{Message, send, echo, ready, recovery, word, malformed, message_in}
+use Rattle.rules.specs.declared.Message.{Message}
+use Rattle.rules.specs.declared.Message.TheVariants.{Send as send, Echo as echo, Ready as ready, Recovery as recovery}
+use Rattle.rules.specs.Messages.{word, malformed, message_in}
 use Rattle.rules.specs.Text.{text, decimal}
 use Rattle.console_page.specs.Numerals.{two_text}
 
