@@ -7,7 +7,7 @@ ghost use Rattle.sheet_reasons.specs.Reasons.{reason_text, sheet_bad, bad_text};
 use arrayvec::ArrayVec;
 use crate::bad::{Bad, sheet_bad};
 use crate::reasons::Reason;
-use text::page::{put_numbered, put_word};
+use text::page::{put_digits, put_word};
 
 #[tactic(auto, using(text::specs::Pages::adds_room), unfolding(crate::specs::Reasons::reason_text, rules::specs::Text::text))]
 fn put_reason<const N: usize>(page: &mut ArrayVec<u8, N>, reason: Reason)
@@ -36,7 +36,7 @@ fn put_reason<const N: usize>(page: &mut ArrayVec<u8, N>, reason: Reason)
 pub const PAGE: usize = 128;
 
 // The line for the sheet b, or nothing.
-#[tactic(auto, using(text::specs::Pages::adds_then, text::specs::Pages::adds_room, text::specs::Pages::adds_none), unfolding(crate::specs::Reasons::bad_text, rules::specs::Text::text))]
+#[tactic(auto, using(text::specs::Pages::adds_then, text::specs::Pages::adds_room, text::specs::Pages::adds_none), unfolding(crate::specs::Reasons::bad_text, rules::specs::Text::text, rules::specs::Text::decimal, text::specs::Pages::digits))]
 pub fn put<const N: usize>(b: &[u8], page: &mut ArrayVec<u8, N>)
     requires { array_vec_len page.old + 128 ≤ N }
     ensures { Adds page.old (bad_text (sheet_bad b.now)) 128 page.new }
@@ -45,7 +45,8 @@ pub fn put<const N: usize>(b: &[u8], page: &mut ArrayVec<u8, N>)
         None => {}
         Some(Bad::TooLong) => put_word(page, b"sheet: over 4,096 bytes\n"),
         Some(Bad::Line { before, reason }) => {
-            put_numbered(page, b"sheet: line ", before + 1);
+            put_word(page, b"sheet: line ");
+            put_digits(page, 4, usize::from(before) + 1);
             put_word(page, b": ");
             put_reason(page, reason);
         }
