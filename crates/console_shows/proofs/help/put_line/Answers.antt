@@ -1,23 +1,21 @@
--- `put_line` puts line n of a text, without its newline. Assumes nothing.
-use native.Mathlib.Omega.{arith}
-use mathlib.Core.Path.{◌≡◌, ap, ◌∙◌}
-use lib.ListN.{length}
-use Rattle.console_shows.specs.Help.{line_end, line_place, line_of, line_end_low, line_none, line_puts}
-use Rattle.console_shows.specs.Parts.{puts_nothing}
+-- `put_line` adds line n. Assumes nothing.
+use Rattle.std.proofs.Common.{◌-◌, ◌+◌, ◌≤◌, ◌<◌, ◌⊎◌, inl, inr, arith, refl, drop, length, length-take, length-drop}
+use Rattle.text.specs.Pages.{adds_room, adds_none}
+use Rattle.console_shows.specs.Help.{line_end, line_place, line_of, line_end_low, line_none}
 use Rattle.console_shows.proofs.help.put_line.Goals as goal
 
-pub returns-then-b-end : goal.returns-then-b-end
-returns-then-b-end c =
+pub returns-in-Some : goal.returns-in-Some
+unfolding line_of
+returns-in-Some g c =
     let b = c.args.b.now in
-    let end : c.line_end-end.result ≡ line_end b (line_place b c.args.n) = c.line_end-end.ensures ∙ ap (line_end b) c.line_place-start.ensures in
-    puts_nothing c.args.page.now c.args.at (line_of b c.args.n) (length b) (line_none b c.args.n (omega (arith, end, c.if-b-end.true)))
+    let start = line_place b c.args.n in
+    let line = c.in-Some.ensures.lookup.0.2 in
+    adds_room (rw (line, c.line_end.ensures, c.line_place-start.ensures) at c.put_word.ensures)
+    (omega (arith, length-take (line_end b start - start) (drop start b), length-drop start b))
 
-pub slice_bounds-put_word-count : goal.slice_bounds-put_word-count
-slice_bounds-put_word-count c = omega (arith, line_end_low c.args.b.now c.line_place-start.result, c.line_end-end.ensures)
-
-pub slice_bounds-put_word-start : goal.slice_bounds-put_word-start
-slice_bounds-put_word-start c = omega (arith, line_end_low c.args.b.now c.line_place-start.result, c.line_end-end.ensures, c.if-b-end.false)
-
-pub returns : goal.returns
-returns c =
-    line_puts c.args.b.now c.args.page.now c.args.at c.args.n c.line_place-start.ensures c.line_end-end.ensures c.put_word.ensures
+pub returns-in_default : goal.returns-in_default
+returns-in_default g c =
+    let b = c.args.b.now in
+    let low = line_end_low b (line_place b c.args.n) in
+    let out = rw (c.line_end.ensures, c.line_place-start.ensures) at c.in_default.ensures.lookup in
+    rw (line_none b c.args.n (omega (arith, low, out))) (adds_none refl _)

@@ -1,24 +1,24 @@
--- `put_matrix` puts the first k rows and columns of a matrix. The loop's invariant: j rows, at most 48 bytes each, are put. Assumes nothing.
-use mathlib.Core.List.{[]}
-use Prim.Native.Nat.{◌*◌}
-use native.Mathlib.Omega.{arith}
-use lib.ListN.{get_or}
-use Rattle.folds.specs.Runs.{gather}
-use Rattle.text.specs.Puts.{runs_none, runs_more, runs_all, puts_room}
-use Rattle.console_shows.specs.Show.{row_text, matrix_text}
+-- `put_matrix` adds the first k rows and columns of a matrix. Assumes nothing.
+use Rattle.std.proofs.Common.{[], ◌<◌, ◌≡◌, ◌∙◌, sym, rules, arith, length, length-take, length-take-le, get_or-take}
+use Rattle.text.specs.Pages.{runs_none, runs_more, runs_all}
+use Rattle.console_shows.specs.Parts.{min_least}
+use Rattle.console_shows.specs.Show.{matrix_text}
 use Rattle.console_shows.proofs.places.put_matrix.Goals as goal
 
-pub loop-j-init : goal.loop-j-init
-loop-j-init c = runs_none _ 48 _ _ _
+pub loop-row-init : goal.loop-row-init
+loop-row-init g c = runs_none
 
-pub loop-j-preserved : goal.loop-j-preserved
-loop-j-preserved c = runs_more c.loop-j.invariant c.loop-j-test.true c.put_row-next.ensures
+pub loop-row-preserved : goal.loop-row-preserved
+loop-row-preserved g c =
+    let width = c.min-width.result in
+    let here : c.loop-row.row-index < width = omega (arith, c.loop-row-test.true, length-take width c.args.c) in
+    runs_more c.loop-row.invariant (rw (get_or-take width c.args.c c.loop-row.row-index [] here) at c.put_row.ensures)
 
 pub returns : goal.returns
 unfolding matrix_text
-returns c =
-    let used = c.in_use-width in
-    let width = used.result in
-    rw (← used.ensures.0)
-    (puts_room c.args.page.now c.args.at (gather width (λ i. row_text width (get_or c.args.c i []))) (width * 48) 384 (omega arith)
-    (runs_all c.loop-j.invariant c.loop-j-test.false))
+returns g c =
+    let width = c.min-width.result in
+    let rows : length c.args.c ≡ 8 = search rules in
+    let all : width ≡ c.loop-row.row-index =
+    (let l = length-take width c.args.c in let m = c.min-width.ensures in let e = c.loop-row.auto.row-index-end in let t = c.loop-row-test.false in omega arith) in
+    rw (← min_least c.args.k 8, ← c.min-width.ensures) (runs_all c.loop-row.invariant width 384 all (omega (arith, c.min-width.ensures)))
