@@ -2,6 +2,7 @@
 -- undoes writing.
 pub mod Puts
 pub mod Pages
+pub mod Finds
 pub mod Decimals
 pub mod Lines
 pub mod Hexadecimal
