@@ -6,7 +6,7 @@ ghost use Rattle.text.specs.Pages.{Adds};
 ghost use Rattle.console_shows.specs.Parts.{wide, widely, boxes_text, kept_text};
 
 use arrayvec::ArrayVec;
-use rules::{Marks, Pair, SetUp};
+use rules::{Marks, Pair};
 use text::page::{put_digits, put_numbered, put_word};
 
 // ---- numbers
@@ -47,8 +47,8 @@ fn put_boxes<const N: usize>(page: &mut ArrayVec<u8, N>, marks: Marks)
     ensures { Adds page.old (boxes_text marks) 60 page.new }
 {
     let before = page.len();
-    for m in 0..SetUp::BOXES {
-        if marks.at[m] {
+    for (m, &marked) in marks.at.iter().enumerate() {
+        if marked {
             put_numbered(page, b" ", m as u16 + 1);
         }
     }

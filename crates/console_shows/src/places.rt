@@ -60,9 +60,9 @@ pub fn put_places<const N: usize>(page: &mut ArrayVec<u8, N>, k: u32, slots: [Sl
     requires { array_vec_len page.old + 8380 ≤ N }
     ensures { Adds page.old (place_lines k slots) 8380 page.new }
 {
-    for s in 0..SetUp::SLOTS {
-        if slots[s].used {
-            put_place(page, k, s, slots[s]);
+    for (s, slot) in slots.iter().enumerate() {
+        if slot.used {
+            put_place(page, k, s, *slot);
         }
     }
 }

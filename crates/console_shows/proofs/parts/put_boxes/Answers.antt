@@ -4,7 +4,7 @@ use Rattle.rules.specs.Text.{text, decimal}
 use Rattle.rules.specs.Record.{marked}
 use Rattle.text.specs.Pages.{runs_none, runs_more, runs_all}
 use Rattle.console_shows.specs.Parts.{box_in, boxes_text, adds_if, adds_unless, none_added, some_added}
-use Rattle.console_shows.proofs.parts.put_boxes.Goals.{then-marks-m, else-marks-m}
+use Rattle.console_shows.proofs.parts.put_boxes.Goals.{then-marked, else-marked}
 use Rattle.console_shows.proofs.parts.put_boxes.Goals as goal
 
 pub loop-m-init : goal.loop-m-init
@@ -14,9 +14,9 @@ pub loop-m-preserved : goal.loop-m-preserved
 unfolding box_in text
 loop-m-preserved g c =
     runs_more c.loop-m.invariant
-    (elim c.if-marks-m.branch [
-      | then-marks-m w ↦ rw w.page-is (adds_if _ w.if-marks-m.true w.put_numbered.ensures)
-      | else-marks-m w ↦ adds_unless (marked c.args.marks c.loop-m.m) _ 6 w.if-marks-m.false w.page-is
+    (elim c.if-marked.branch [
+      | then-marked w ↦ rw w.page-is (adds_if _ w.if-marked.true w.put_numbered.ensures)
+      | else-marked w ↦ adds_unless (marked c.args.marks c.loop-m.m) _ 6 w.if-marked.false w.page-is
     ])
 
 pub returns-then-len-before : goal.returns-then-len-before

@@ -7,4 +7,4 @@ use Rattle.console_shows.specs.Show.{place_line}
 use Rattle.console_shows.proofs.places.put_places.Given as goal
 
 abbrev pub invariant-loop-s : goal.invariant-loop-s
-invariant-loop-s g l = AddsRuns (λ s. pick (slot_in l.slots s).used (place_line l.k s (slot_in l.slots s)) []) 419 l.initial.page l.s l.page
+invariant-loop-s g l = AddsRuns (λ s. pick (slot_in l.fn.slots s).used (place_line l.k s (slot_in l.fn.slots s)) []) 419 l.initial.page l.s l.page
