@@ -32,6 +32,7 @@ pub fn put_help<const N: usize>(page: &mut ArrayVec<u8, N>)
 // ---- the numbers
 
 // Where the line from i on ends.
+#[tactic(auto, using(folds::specs::Below::first_from_same, crate::specs::Help::newline_at), unfolding(crate::specs::Help::line_end, text::specs::Finds::byte_from))]
 fn line_end(b: &[u8], i: usize) -> usize
     ensures { result ≡ line_end b.now i }
 {

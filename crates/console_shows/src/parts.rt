@@ -12,6 +12,7 @@ use text::page::{put_digits, put_numbered, put_word};
 // ---- numbers
 
 // Up to ten digits: a set-up number of any record, sound or not.
+#[tactic(auto, using(crate::specs::Parts::digits_wide))]
 fn put_wide<const N: usize>(page: &mut ArrayVec<u8, N>, x: u32)
     requires { array_vec_len page.old + 10 ≤ N }
     ensures { Adds page.old (wide x) 10 page.new }
@@ -42,6 +43,7 @@ pub fn put_either<const N: usize>(page: &mut ArrayVec<u8, N>, holds: bool, yes: 
 // ---- the boxes of a list
 
 // The marked boxes, or that there are none.
+#[tactic(auto, using(text::specs::Pages::runs_all, crate::specs::Parts::none_added), unfolding(crate::specs::Parts::boxes_text, rules::specs::Text::text))]
 fn put_boxes<const N: usize>(page: &mut ArrayVec<u8, N>, marks: Marks)
     requires { array_vec_len page.old + 60 ≤ N }
     ensures { Adds page.old (boxes_text marks) 60 page.new }

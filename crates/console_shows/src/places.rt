@@ -16,6 +16,7 @@ fn put_row<const N: usize>(page: &mut ArrayVec<u8, N>, width: usize, row: [Eleme
     put_numbers(page, &row.map(|x| x.0)[..width]);
 }
 
+#[tactic(auto, using(text::specs::Pages::runs_all, crate::specs::Parts::min_least), unfolding(crate::specs::Show::matrix_text))]
 fn put_matrix<const N: usize>(page: &mut ArrayVec<u8, N>, k: u32, c: [[Element; 8]; 8])
     requires { array_vec_len page.old + 384 ≤ N }
     ensures { Adds page.old (matrix_text k c) 384 page.new }

@@ -59,6 +59,7 @@ fn put_point_line<const N: usize>(page: &mut ArrayVec<u8, N>, slot: Slot, m: usi
     );
 }
 
+#[tactic(auto, using(text::specs::Pages::runs_all, crate::specs::Parts::min_least), unfolding(crate::specs::Points::point_lines))]
 fn put_point_lines<const N: usize>(page: &mut ArrayVec<u8, N>, n: u32, slot: Slot)
     requires { array_vec_len page.old + 410 ≤ N }
     ensures { Adds page.old (point_lines n slot) 410 page.new }

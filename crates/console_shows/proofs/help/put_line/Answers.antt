@@ -1,5 +1,5 @@
 -- `put_line` adds line n. Assumes nothing.
-use Rattle.std.proofs.Common.{◌-◌, ◌+◌, ◌≤◌, ◌<◌, ◌⊎◌, inl, inr, arith, refl, drop, length, length-take, length-drop}
+use Rattle.std.proofs.Common.{◌-◌, take, drop, arith, refl, length-take, length-drop}
 use Rattle.text.specs.Pages.{adds_room, adds_none}
 use Rattle.console_shows.specs.Help.{line_end, line_place, line_of, line_end_low, line_none}
 use Rattle.console_shows.proofs.help.put_line.Goals as goal
@@ -9,9 +9,10 @@ unfolding line_of
 returns-in-Some g c =
     let b = c.args.b.now in
     let start = line_place b c.args.n in
+    let size = line_end b start - start in
     let line = c.in-Some.ensures.lookup.0.2 in
-    adds_room (rw (line, c.line_end.ensures, c.line_place-start.ensures) at c.put_word.ensures)
-    (omega (arith, length-take (line_end b start - start) (drop start b), length-drop start b))
+    adds_room {a = take size (drop start b)} (rw (line, c.line_end.ensures, c.line_place-start.ensures) at c.put_word.ensures)
+    (omega (arith, length-take size (drop start b), length-drop start b))
 
 pub returns-in_default : goal.returns-in_default
 returns-in_default g c =
