@@ -3,14 +3,16 @@
 --
 -- In order: the lines; the numbers; laws of the writers.
 -- Assumes nothing.
-use Rattle.std.specs.Prelude.{Bool, true, false, List, [], ◌++◌, ◌≡◌, ℕ, zero, suc, ◌+◌, ◌-◌, ◌<◌, ◌≤◌, eqb, ltb, length, get_or, drop}
+use Rattle.std.specs.Prelude.{Bool, true, false, List, [], ◌++◌, ◌≡◌, ℕ, zero, suc, ◌+◌, ◌-◌, ◌<◌, ◌≤◌, ◌⊎◌, eqb, ltb, length, get_or, drop}
 use Rattle.std.proofs.Math.Path.{refl}
-use Rattle.std.proofs.Common.{add-one, arith, ltb-false}
+use Rattle.std.proofs.Common.{add-one, ap, arith, ltb-false}
 use Rattle.std.proofs.lemmas.List.{get_or_past, nil_from_length}
 use Rattle.std.proofs.Math.ListN.{take, length-take, length-drop}
+use Rattle.arrayvec.specs.ArrayVec.{ArrayVec}
 use Rattle.folds.specs.Tests.{◌and◌, pick-either}
 use Rattle.folds.specs.Below.{first_from, first_from_le}
 use Rattle.rules.specs.Text.{text, newline, byte_at}
+use Rattle.text.specs.Pages.{Adds, adds_none, adds_room}
 
 unfoldable pub help_lines : List ℕ
 help_lines =
@@ -103,10 +105,19 @@ module _ (b : List ℕ) where
   unfolding line_place
   line_place_more n = rw (add-one n)
 
-  -- a line that starts behind the text
-  pub line_none : (n : ℕ) → length b < line_end b (line_place b n) → line_of b n ≡ []
-  unfolding line_of
-  line_none n l =
-      let start = line_place b n in
-      let high = line_end_high start in
-      nil_from_length _ (omega (arith, length-take (line_end b start - start) (drop start b), length-drop start b))
+  -- a line that starts in the text, and one that starts behind it
+  module _ (n : ℕ) {start end : ℕ} (at : start ≡ line_place b n) (to : end ≡ line_end b start) {page : ArrayVec ℕ} where
+    pub line_added : {line : List ℕ} {page' : ArrayVec ℕ} → line ≡ take (end - start) (drop start b) → Adds page line (length line) page'
+        → Adds page (line_of b n) (length b) page'
+    unfolding line_of
+    line_added e h =
+        rw (← at, ← to, ← e) (adds_room h (omega (arith, ap length e, length-take (end - start) (drop start b), length-drop start b)))
+
+    pub line_missed : (end < start) ⊎ (length b < end) → (most : ℕ) → Adds page (line_of b n) most page
+    unfolding line_of
+    line_missed out most =
+        let low = line_end_low start in
+        let high = line_end_high start in
+        let none : take (end - start) (drop start b) ≡ [] =
+        nil_from_length _ (omega (arith, out, to, low, high, length-take (end - start) (drop start b), length-drop start b)) in
+        rw (← at, ← to, none) (adds_none refl most)

@@ -64,38 +64,52 @@ five_behind [] a b c d e = refl
 five_behind (x ∷ l) a b c d e = ap (λ (t : List ℕ). x ∷ t) (five_behind l a b c d e)
 
 module _ (x : ℕ) where
-  -- the digit for a power of ten, if it is not above x
-  power_digit : ℕ → List ℕ
-  power_digit q = pick (ltb x q) [] (digit_of x q ∷ [])
+  -- one below 100,000 has none for the five highest powers of ten
+  few : x < 100000 → digits 9 x ≡ decimal x
+  unfolding digits decimal gather
+  few l =
+      rw (
+        lt-ltb x 1000000000 (omega arith),
+        lt-ltb x 100000000 (omega arith),
+        lt-ltb x 10000000 (omega arith),
+        lt-ltb x 1000000 (omega arith),
+        lt-ltb x 100000 l,
+      ) refl
 
-  none_for : (q : ℕ) → x < q → power_digit q ≡ []
-  unfolding power_digit
-  none_for q l = pick_true (ltb x q) [] (digit_of x q ∷ []) (lt-ltb x q l)
+  -- another has those of x / 100000 there, and one for each of the others
+  module _ (p : ℕ) (l : 0 < p) where
+    same_test : ltb (x / 100000) p ≡ ltb x (100000 * p)
+    same_test =
+        iff_same (ltb (x / 100000) p) (ltb x (100000 * p))
+        (λ g. let i = ltb-true (x / 100000) p g in lt-ltb x (100000 * p) (omega arith))
+        (λ g. let i = ltb-true x (100000 * p) g in lt-ltb (x / 100000) p (omega arith))
 
-  one_for : (q : ℕ) → q ≤ x → power_digit q ≡ digit_of x q ∷ []
-  unfolding power_digit
-  one_for q l = pick-false (ltb x q) [] (digit_of x q ∷ []) (le-ltb x q l)
+  many : 100000 ≤ x → digits 9 x ≡ decimal (x / 100000) ++ five_digits x
+  unfolding digits decimal five_digits gather
+  many l =
+      rw (
+        le-ltb x 100000 l,
+        le-ltb x 10000 (omega arith),
+        le-ltb x 1000 (omega arith),
+        le-ltb x 100 (omega arith),
+        le-ltb x 10 (omega arith),
+        same_test 10000 (omega arith),
+        same_test 1000 (omega arith),
+        same_test 100 (omega arith),
+        same_test 10 (omega arith),
+        div-div-eq-div-mul x 100000 10000,
+        div-div-eq-div-mul x 100000 1000,
+        div-div-eq-div-mul x 100000 100,
+        div-div-eq-div-mul x 100000 10,
+        div-one (x / 100000),
+      ) (five_behind _ (digit_of x 10000) (digit_of x 1000) (digit_of x 100) (digit_of x 10) (digit_of x 1))
 
-pub digits_wide : (x : ℕ) → digits 9 x ≡ wide x
-unfolding digits wide decimal five_digits gather power_digit
-digits_wide x =
-    pick-either (λ (r : List ℕ). digits 9 x ≡ r) (ltb x 100000) (decimal x) (decimal (x / 100000) ++ five_digits x)
-    (λ e.
-    let l = ltb-true x 100000 e in
-    ap (λ (t : List ℕ). t ++ power_digit x 10000 ++ power_digit x 1000 ++ power_digit x 100 ++ power_digit x 10 ++ digit_of x 1 ∷ [])
-    (ap₂ ◌++◌ (ap₂ ◌++◌ (ap₂ ◌++◌ (ap₂ ◌++◌ (none_for x 1000000000 (omega arith)) (none_for x 100000000 (omega arith))) (none_for x 10000000 (omega arith))) (none_for x 1000000 (omega arith))) (none_for x 100000 l)))
-    (λ e.
-    let l = ltb-false x 100000 e in
-    let y = x / 100000 in
-    let part : (p q : ℕ) → 0 < p → 100000 * p ≡ q → power_digit x q ≡ power_digit y p =
-    (λ p q z h. ap₂ (λ (t : Bool) (d : ℕ). pick t [] ((48 + d % 10) ∷ []))
-    (iff_same (ltb x q) (ltb y p) (λ g. let i = ltb-true x q g in lt-ltb y p (omega arith)) (λ g. let i = ltb-true y p g in lt-ltb x q (omega arith)))
-    (ap (λ (n : ℕ). x / n) (sym h) ∙ sym (div-div-eq-div-mul x 100000 p))) in
-    let fifth : digit_of x 100000 ∷ [] ≡ digit_of y 1 ∷ [] = ap (λ (n : ℕ). (48 + n % 10) ∷ []) (sym (div-one y)) in
-    ap₂ ◌++◌ (ap₂ ◌++◌ (ap₂ ◌++◌ (ap₂ ◌++◌ (ap₂ ◌++◌
-    (ap₂ ◌++◌ (ap₂ ◌++◌ (ap₂ ◌++◌ (ap₂ ◌++◌ (part 10000 1000000000 (omega arith) refl) (part 1000 100000000 (omega arith) refl)) (part 100 10000000 (omega arith) refl)) (part 10 1000000 (omega arith) refl)) (one_for x 100000 l ∙ fifth))
-    (one_for x 10000 (omega arith))) (one_for x 1000 (omega arith))) (one_for x 100 (omega arith))) (one_for x 10 (omega arith))) refl
-    ∙ five_behind (decimal y) (digit_of x 10000) (digit_of x 1000) (digit_of x 100) (digit_of x 10) (digit_of x 1))
+  pub digits_wide : digits 9 x ≡ wide x
+  unfolding wide
+  digits_wide =
+      pick-either (λ (r : List ℕ). digits 9 x ≡ r) (ltb x 100000) (decimal x) (decimal (x / 100000) ++ five_digits x)
+      (λ e. few (ltb-true x 100000 e))
+      (λ e. many (ltb-false x 100000 e))
 
 -- the lesser of two
 pub min_least : (x most : ℕ) → min x most ≡ least x most

@@ -52,6 +52,7 @@ fn line_place(b: &[u8], n: u32) -> usize
 }
 
 // Line n without its newline.
+#[tactic(auto, using(crate::specs::Help::line_added))]
 fn put_line<const N: usize>(page: &mut ArrayVec<u8, N>, b: &[u8], n: u32)
     requires { (length b.now ≤ 65535) × (array_vec_len page.old + length b.now ≤ N) }
     ensures { Adds page.old (line_of b.now n) (length b.now) page.new }

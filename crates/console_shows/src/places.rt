@@ -5,6 +5,7 @@ ghost use Rattle.text.specs.Pages.{Adds};
 ghost use Rattle.console_shows.specs.Show.{row_text, matrix_text, counts_text, place_line, place_lines};
 
 use arrayvec::ArrayVec;
+use record_reading::count_marks;
 use rules::{Element, SetUp, Slot};
 use text::page::{put_numbered, put_numbers, put_word};
 
@@ -33,16 +34,8 @@ fn put_counts<const N: usize>(page: &mut ArrayVec<u8, N>, s: usize, slot: Slot)
     ensures { Adds page.old (counts_text s slot) 27 page.new }
 {
     put_numbered(page, b"place ", s as u16);
-    put_numbered(
-        page,
-        b" e ",
-        record_reading::count_marks(slot.echoed) as u16,
-    );
-    put_numbered(
-        page,
-        b" r ",
-        record_reading::count_marks(slot.readied) as u16,
-    );
+    put_numbered(page, b" e ", count_marks(slot.echoed) as u16);
+    put_numbered(page, b" r ", count_marks(slot.readied) as u16);
 }
 
 #[tactic(auto, using(text::specs::Pages::adds_then), unfolding(crate::specs::Show::place_line, rules::specs::Record::matrix_of, rules::specs::Text::text))]
