@@ -2,13 +2,13 @@
 --
 -- In order: numbers; a word and a number; the boxes of a list; a pair; laws of the writers.
 -- Assumes nothing.
-use Rattle.std.specs.Prelude.{Bool, true, false, List, [], ◌∷◌, ◌++◌, ◌≡◌, refl, ℕ, ◌+◌, ◌-◌, ◌*◌, ◌/◌, ◌%◌, ◌^◌, ◌<◌, ◌≤◌, eqb, leb, ltb, length, Option, Some, None}
+use Rattle.std.specs.Prelude.{Bool, true, false, List, [], ◌∷◌, ◌++◌, ◌≡◌, refl, ℕ, ◌+◌, ◌-◌, ◌*◌, ◌/◌, ◌^◌, ◌<◌, ◌≤◌, eqb, leb, ltb, length, Option, Some, None}
 use Prim.Native.Nat.{min}
-use Rattle.std.proofs.Common.{ap, ap₂, ◌∙◌, sym, arith, append-nil, length-append, div-one, eq-eqb, ne_eqb, lt-ltb, le-ltb, ltb-true, ltb-false, leb-true, leb-false}
+use Rattle.std.proofs.Common.{ap, ◌∙◌, arith, append-nil, length-append, div-one, eq-eqb, ne_eqb, lt-ltb, le-ltb, ltb-true, ltb-false, leb-true, leb-false}
 use Rattle.std.proofs.Math.Nat.{min-eq_left, min-eq_right, div-div-eq-div-mul}
 use Rattle.std.proofs.lemmas.List.{nil_from_length}
 use Rattle.arrayvec.specs.ArrayVec.{ArrayVec, array_vec_len}
-use Rattle.folds.specs.Tests.{pick, pick_true, pick-false, pick-either, iff_same}
+use Rattle.folds.specs.Tests.{pick, pick-either, iff_same}
 use Rattle.folds.specs.Runs.{gather}
 use Rattle.rules.specs.declared.Marks.{Marks}
 use Rattle.rules.specs.declared.Pair.{Pair}
@@ -76,14 +76,13 @@ module _ (x : ℕ) where
         lt-ltb x 100000 l,
       ) refl
 
-  -- another has those of x / 100000 there, and one for each of the others
-  module _ (p : ℕ) (l : 0 < p) where
-    same_test : ltb (x / 100000) p ≡ ltb x (100000 * p)
-    same_test =
-        iff_same (ltb (x / 100000) p) (ltb x (100000 * p))
-        (λ g. let i = ltb-true (x / 100000) p g in lt-ltb x (100000 * p) (omega arith))
-        (λ g. let i = ltb-true x (100000 * p) g in lt-ltb (x / 100000) p (omega arith))
+  same_test : (p : ℕ) → ltb (x / 100000) p ≡ ltb x (100000 * p)
+  same_test p =
+      iff_same (ltb (x / 100000) p) (ltb x (100000 * p))
+      (λ g. let i = ltb-true (x / 100000) p g in lt-ltb x (100000 * p) (omega arith))
+      (λ g. let i = ltb-true x (100000 * p) g in lt-ltb (x / 100000) p (omega arith))
 
+  -- another has those of x / 100000 there, and one for each of the others
   many : 100000 ≤ x → digits 9 x ≡ decimal (x / 100000) ++ five_digits x
   unfolding digits decimal five_digits gather
   many l =
@@ -93,10 +92,10 @@ module _ (x : ℕ) where
         le-ltb x 1000 (omega arith),
         le-ltb x 100 (omega arith),
         le-ltb x 10 (omega arith),
-        same_test 10000 (omega arith),
-        same_test 1000 (omega arith),
-        same_test 100 (omega arith),
-        same_test 10 (omega arith),
+        same_test 10000,
+        same_test 1000,
+        same_test 100,
+        same_test 10,
         div-div-eq-div-mul x 100000 10000,
         div-div-eq-div-mul x 100000 1000,
         div-div-eq-div-mul x 100000 100,

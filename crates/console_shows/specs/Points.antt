@@ -2,9 +2,8 @@
 --
 -- In order: a point and its marks; the line of a box; the whole.
 -- Assumes nothing.
-use Rattle.std.specs.Prelude.{Bool, true, false, List, [], ◌++◌, ◌≡◌, ℕ, ◌+◌, ◌<◌, ◌≤◌, eqb, ltb}
-use Rattle.std.proofs.Common.{ap, ◌∙◌, ne_eqb, lt-ltb, le-ltb}
-use Rattle.folds.specs.Tests.{◌and◌, pick, pick_true, pick-false, and_intro, and_false}
+use Rattle.std.specs.Prelude.{Bool, List, [], ◌++◌, ℕ, ◌+◌, eqb, ltb}
+use Rattle.folds.specs.Tests.{◌and◌, pick}
 use Rattle.folds.specs.Runs.{gather}
 use Rattle.rules.specs.declared.Four.{Four}
 use Rattle.rules.specs.declared.Point.{Point}
