@@ -30,6 +30,8 @@ pub fn put_help<const N: usize>(page: &mut ArrayVec<u8, N>)
 }
 
 // ---- the numbers
+//
+// Their lines are one text, as `answer_lines` is: with a constant array of lines the proof did not close.
 
 // Where the line from i on ends.
 #[tactic(auto, using(folds::specs::Below::first_from_same, crate::specs::Help::newline_at), unfolding(crate::specs::Help::line_end, text::specs::Finds::byte_from))]
