@@ -1,7 +1,11 @@
 // Why a line is bad, and the line that says so.
-ghost use Rattle.std.specs.Prelude.{◌+◌, ◌≤◌, length};
-ghost use Rattle.text.specs.Puts.{Puts};
+ghost use Rattle.std.specs.Prelude.{◌+◌, ◌≤◌};
+ghost use Rattle.arrayvec.specs.ArrayVec.{array_vec_len};
+ghost use Rattle.text.specs.Pages.{Adds};
 ghost use Rattle.console_lines.specs.Reasons.{reason_line};
+
+use arrayvec::ArrayVec;
+use text::page::{put_numbered, put_word};
 
 // The first that holds; places and items are counted from 1.
 #[derive(Clone, Copy)]
@@ -15,27 +19,28 @@ pub enum Reason {
     Item(u16),
 }
 
-pub fn put(page: &mut [u8], at: usize, reason: Reason) -> usize
-    requires { at + 30 ≤ length page.old }
-    ensures { Puts page.old at (reason_line reason) 30 result page.new }
+#[tactic(auto, using(text::specs::Pages::adds_then, text::specs::Pages::adds_room), unfolding(rules::specs::Text::text))]
+pub fn put<const N: usize>(page: &mut ArrayVec<u8, N>, reason: Reason)
+    requires { array_vec_len page.old + 30 ≤ N }
+    ensures { Adds page.old (reason_line reason) 30 page.new }
 {
     match reason {
-        Reason::TooLong => text::write::put_word(page, at, b"bad line: too long\n"),
-        Reason::CutOff => text::write::put_word(page, at, b"bad line: cut off\n"),
-        Reason::Byte { value, at: place } => {
-            let next = text::write::put_numbered(page, at, b"bad line: byte ", value as u32);
-            let next = text::write::put_numbered(page, next, b" at ", place as u32);
-            text::write::put_word(page, next, b"\n")
+        Reason::TooLong => put_word(page, b"bad line: too long\n"),
+        Reason::CutOff => put_word(page, b"bad line: cut off\n"),
+        Reason::Byte { value, at } => {
+            put_numbered(page, b"bad line: byte ", u16::from(value));
+            put_numbered(page, b" at ", at);
+            put_word(page, b"\n");
         }
         Reason::Space(place) => {
-            let next = text::write::put_numbered(page, at, b"bad line: space at ", place as u32);
-            text::write::put_word(page, next, b"\n")
+            put_numbered(page, b"bad line: space at ", place);
+            put_word(page, b"\n");
         }
-        Reason::NoSuchWord => text::write::put_word(page, at, b"bad line: no such word\n"),
-        Reason::Items => text::write::put_word(page, at, b"bad line: items\n"),
+        Reason::NoSuchWord => put_word(page, b"bad line: no such word\n"),
+        Reason::Items => put_word(page, b"bad line: items\n"),
         Reason::Item(j) => {
-            let next = text::write::put_numbered(page, at, b"bad line: item ", j as u32);
-            text::write::put_word(page, next, b"\n")
+            put_numbered(page, b"bad line: item ", j);
+            put_word(page, b"\n");
         }
     }
 }

@@ -77,13 +77,13 @@ fn set_up(line: &[u8]) -> SetUp
     ensures { result ≡ set_up_of line.now }
 {
     SetUp {
-        group: number_of(line, 1) as u32,
-        n: number_of(line, 2) as u32,
-        t: number_of(line, 3) as u32,
-        k: number_of(line, 4) as u32,
-        i: number_of(line, 5) as u32,
-        d: number_of(line, 6) as u32,
-        session: number_of(line, 7) as u32,
+        group: u32::from(number_of(line, 1)),
+        n: u32::from(number_of(line, 2)),
+        t: u32::from(number_of(line, 3)),
+        k: u32::from(number_of(line, 4)),
+        i: u32::from(number_of(line, 5)),
+        d: u32::from(number_of(line, 6)),
+        session: u32::from(number_of(line, 7)),
     }
 }
 
@@ -105,7 +105,7 @@ fn deal(line: &[u8], coins: &mut [u16]) -> Said
     requires { Dealt line.now coins.old }
     ensures { (result ≡ command_of line.now word.Deal) × (coins.new ≡ sets coins.old 0 (coins_of line.now word.Deal)) }
 {
-    let secret = number_of(line, 1) as u32;
+    let secret = u32::from(number_of(line, 1));
     let m = crate::items::count_items(line) - 1;
     read_coins(line, m, coins);
     Said::Deal { secret, coins: m }
@@ -120,7 +120,7 @@ fn help(line: &[u8]) -> Said
     if crate::items::count_items(line) == 0 {
         Said::Help
     } else {
-        Said::HelpOf(number_of(line, 1) as usize)
+        Said::HelpOf(usize::from(number_of(line, 1)))
     }
 }
 
@@ -134,10 +134,10 @@ fn command(line: &[u8], word: Word, coins: &mut [u16], bytes: &mut [u8]) -> Said
 {
     match word {
         Word::SetUp => Said::SetUp(set_up(line)),
-        Word::Lend => Said::Lend(number_of(line, 1) as usize),
+        Word::Lend => Said::Lend(usize::from(number_of(line, 1))),
         Word::Deal => deal(line, coins),
         Word::Deliver => {
-            let sender = number_of(line, 1) as u32;
+            let sender = u32::from(number_of(line, 1));
             let n = read_bytes(line, 2, bytes);
             Said::Deliver { sender, bytes: n }
         }
@@ -145,7 +145,7 @@ fn command(line: &[u8], word: Word, coins: &mut [u16], bytes: &mut [u8]) -> Said
         Word::Show => Said::Show,
         Word::Help => help(line),
         Word::Read => Said::Read(read_bytes(line, 1, bytes)),
-        Word::Points => Said::Points(number_of(line, 1) as usize),
+        Word::Points => Said::Points(usize::from(number_of(line, 1))),
         Word::Quit => Said::Quit,
     }
 }

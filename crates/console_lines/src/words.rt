@@ -1,6 +1,5 @@
 // The words that a line may begin with, and the form of the items behind each.
 ghost use Rattle.std.specs.Prelude.{◌≡◌, ◌≤◌, length};
-ghost use Rattle.folds.specs.Tests.{pick};
 ghost use Rattle.console_lines.specs.Items.{place_in};
 ghost use Rattle.console_lines.specs.Words.{
   word_is,
@@ -27,6 +26,19 @@ pub enum Word {
     Quit,
 }
 
+const NAMES: [(&[u8], Word); 10] = [
+    (b"setup", Word::SetUp),
+    (b"lend", Word::Lend),
+    (b"deal", Word::Deal),
+    (b"deliver", Word::Deliver),
+    (b"recover", Word::Recover),
+    (b"show", Word::Show),
+    (b"help", Word::Help),
+    (b"read", Word::Read),
+    (b"points", Word::Points),
+    (b"quit", Word::Quit),
+];
+
 // At least and at most so many items; the first so many of them are decimals up to the limit, the others hexadecimal.
 #[derive(Clone, Copy)]
 pub struct Form {
@@ -45,30 +57,12 @@ fn word_is(line: &[u8], word: &[u8]) -> bool
     text::read::word_at(line, 0, word) && crate::items::item_end(line, 0) == word.len()
 }
 
-// This word, where the line begins with its name; else the other.
-fn word_or(line: &[u8], name: &[u8], word: Word, other: Option<Word>) -> Option<Word>
-    ensures { result ≡ pick (word_is line.now name.now) (Some word) other }
-{
-    if word_is(line, name) {
-        Some(word)
-    } else {
-        other
-    }
-}
-
+// The first of the names that the line begins with tells the word.
 pub fn word_of(line: &[u8]) -> Option<Word>
     ensures { result ≡ word_of line.now }
 {
-    let word = word_or(line, b"quit", Word::Quit, None);
-    let word = word_or(line, b"points", Word::Points, word);
-    let word = word_or(line, b"read", Word::Read, word);
-    let word = word_or(line, b"help", Word::Help, word);
-    let word = word_or(line, b"show", Word::Show, word);
-    let word = word_or(line, b"recover", Word::Recover, word);
-    let word = word_or(line, b"deliver", Word::Deliver, word);
-    let word = word_or(line, b"deal", Word::Deal, word);
-    let word = word_or(line, b"lend", Word::Lend, word);
-    word_or(line, b"setup", Word::SetUp, word)
+    let x = NAMES.iter().find(|x| word_is(line, x.0))?;
+    Some(x.1)
 }
 
 fn new_form(least: usize, most: usize, numbers: usize, limit: u16) -> Form

@@ -93,7 +93,12 @@ fn put_each<const N: usize>(page: &mut ArrayVec<u8, N>, n: usize, size: usize, b
 
 // The n messages of a call, of so many bytes together.
 #[tactic(auto, using(text::specs::Pages::adds_none), unfolding(crate::specs::Answers::message_lines))]
-pub fn put_messages<const N: usize>(page: &mut ArrayVec<u8, N>, n: usize, bytes: usize, buffer: &[u8])
+pub fn put_messages<const N: usize>(
+    page: &mut ArrayVec<u8, N>,
+    n: usize,
+    bytes: usize,
+    buffer: &[u8],
+)
     requires { array_vec_len page.old + 100 + 2 * length buffer.now ≤ N }
     ensures { Adds page.old (message_lines n bytes buffer.now) (100 + 2 * length buffer.now) page.new }
 {

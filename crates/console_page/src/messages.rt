@@ -17,7 +17,12 @@ fn put_row<const N: usize>(page: &mut ArrayVec<u8, N>, k: usize, row: [Element; 
 }
 
 // A word, and the k coefficients of a polynomial.
-fn put_polynomial<const N: usize>(page: &mut ArrayVec<u8, N>, word: &[u8], k: usize, a: [Exponent; 8])
+fn put_polynomial<const N: usize>(
+    page: &mut ArrayVec<u8, N>,
+    word: &[u8],
+    k: usize,
+    a: [Exponent; 8],
+)
     requires { (k ≤ 8) × (array_vec_len page.old + length word.now + 48 ≤ N) }
     ensures { Adds page.old (word.now ++ numbers_text k (coefficient a)) (length word.now + 48) page.new }
 {

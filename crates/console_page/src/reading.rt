@@ -42,6 +42,7 @@ fn width_in(s: &[u8]) -> Option<u32>
 
 // ---- the line of each message
 
+#[tactic(auto, unfolding(rules::specs::Messages::word))]
 fn session_in(s: &[u8]) -> u16
     requires { 6 ≤ length s.now }
     ensures { result ≡ word s.now 4 }

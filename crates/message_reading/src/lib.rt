@@ -4,9 +4,10 @@
 ghost use Rattle.std.specs.Prelude.{◌≡◌, ◌+◌, ◌*◌, ◌≤◌, length};
 ghost use Rattle.rules.specs.Numbers.{exponent};
 ghost use Rattle.rules.specs.Matrices.{row};
-ghost use Rattle.rules.specs.Messages.{word, whole_length, malformed, foreign, end_place, matrix_in, polynomials_in, four_in, pair_in};
+ghost use Rattle.rules.specs.Messages.{word, whole_length, malformed, foreign, end_place, matrix_in, polynomials_in, four_in, pair_in, message_in};
+ghost use Rattle.rules.specs.Laws.RoundTrip.{Formed};
 
-use rules::{Element, Exponent, Four, Number, Pair, Polynomials, SetUp};
+use rules::{Element, Exponent, Four, Message, Number, Pair, Polynomials, SetUp};
 
 // The two-byte number at p, high byte first.
 #[tactic(auto, unfolding(rules::specs::Messages::word))]
@@ -141,5 +142,19 @@ pub fn read_pair(s: &[u8]) -> Pair
     Pair {
         first: exponent_at(s, 6),
         second: exponent_at(s, 8),
+    }
+}
+
+// What a message that is not malformed says.
+#[tactic(auto, using(rules::proofs::Laws::RoundTrip::send_long, rules::proofs::Laws::RoundTrip::point_long, rules::proofs::Laws::RoundTrip::matrix_long, rules::proofs::Laws::RoundTrip::share_long), unfolding(rules::specs::Messages::message_in))]
+pub fn read(s: &[u8], u: SetUp) -> Message
+    requires { (u.k ≤ 8) × Formed u s.now }
+    ensures { result ≡ message_in u s.now }
+{
+    match s[0] {
+        1 => Message::Send(read_matrix(s, u), read_polynomials(s, u)),
+        2 => Message::Echo(read_matrix(s, u), read_four(s, u)),
+        3 => Message::Ready(read_matrix(s, u), read_four(s, u)),
+        _ => Message::Recovery(read_pair(s)),
     }
 }

@@ -18,7 +18,8 @@ use Rattle.rules.specs.declared.Four.{Four}
 use Rattle.rules.specs.declared.SetUp.{SetUp}
 use Rattle.rules.specs.declared.Side.{Side}
 use Rattle.rules.specs.declared.Side.TheVariants.{ByEcho, ByReady}
-use Rattle.rules.specs.Messages.{Message, saying, side_tag, two_bytes, matrix_bytes, four_bytes, tag_of, body_of, framed, bytes_of, end_place, to_each, written}
+use Rattle.rules.specs.declared.Message.{Message}
+use Rattle.rules.specs.Messages.{saying, side_tag, two_bytes, matrix_bytes, four_bytes, tag_of, body_of, framed, bytes_of, end_place, to_each, written}
 use Rattle.rules.specs.Laws.RoundTrip.{SetUpFits}
 use Rattle.rules.proofs.Laws.Lengths.{length_message_le}
 use Rattle.message_writing.specs.Written.{head_bytes, opening_bytes, Puts, Writes, CanSend}

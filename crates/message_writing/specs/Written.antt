@@ -7,7 +7,8 @@ use denote.MutBor.{MutBor}
 use Rattle.rules.specs.declared.Element.{Element}
 use Rattle.rules.specs.declared.Polynomials.{Polynomials}
 use Rattle.rules.specs.declared.SetUp.{SetUp}
-use Rattle.rules.specs.Messages.{Message, two_bytes, matrix_bytes, bytes_of, written}
+use Rattle.rules.specs.declared.Message.{Message}
+use Rattle.rules.specs.Messages.{two_bytes, matrix_bytes, bytes_of, written}
 use Rattle.rules.specs.Laws.RoundTrip.{SetUpFits}
 
 unfoldable pub head_bytes : SetUp → ℕ → ℕ → List ℕ

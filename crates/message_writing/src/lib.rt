@@ -5,7 +5,9 @@
 
 ghost use Rattle.std.specs.Prelude.{[], ◌∷◌, ◌++◌, ℕ, ◌+◌, ◌-◌, ◌*◌, ◌<◌, ◌≤◌, length, get_or};
 ghost use Rattle.folds.specs.Runs.{gather};
-ghost use Rattle.rules.specs.Messages.{Message, two_bytes, matrix_bytes, polynomial_bytes, send, saying, recovery, bytes_of, end_place, to_each};
+ghost use Rattle.rules.specs.declared.Message.{Message};
+ghost use Rattle.rules.specs.declared.Message.TheVariants.{Send as send, Recovery as recovery};
+ghost use Rattle.rules.specs.Messages.{two_bytes, matrix_bytes, polynomial_bytes, saying, bytes_of, end_place, to_each};
 ghost use Rattle.rules.specs.Matrices.{zero_four};
 ghost use Rattle.rules.specs.Laws.RoundTrip.{SetUpFits};
 ghost use Rattle.message_writing.specs.Written.{head_bytes, opening_bytes, to_box, no_polynomials, Puts, Writes, EachWrites, CanSend};

@@ -2,6 +2,7 @@
 -- places.
 -- Assumes nothing.
 use mathlib.Core.Bool.{Bool, true, false}
+use Rattle.record_points.specs.declared.points.Drawn.{Drawn}
 use mathlib.Core.List.{List, [], ◌∷◌, ◌++◌, map, map-map, append-nil}
 use mathlib.Core.Path.{◌≡◌, refl, ap, sym, ◌∙◌}
 use Prim.Native.Nat.{ℕ, ◌+◌, ◌≤◌, ◌<◌}
@@ -80,7 +81,7 @@ said_of ps h =
 -- ---- the sides of places
 
 -- The k lowest points of a side are that side of the k lowest points.
-pub side_points_lem : (a : Bool) (k : ℕ) (places : List Place) → take k (share_points (map (side_kept a) places)) ≡ side_points a (take k (points places))
+pub side_points_lem : (a : Drawn) (k : ℕ) (places : List Place) → take k (share_points (map (side_kept a) places)) ≡ side_points a (take k (points places))
 unfolding share_points points side_points
 side_points_lem a k places =
     ap (take k) (gather-same _ _ 10 (λ m l. at m) ∙ sym (map-gather (side_point a) (λ m. held_at m (get_or places m silent).point) 10))
@@ -94,13 +95,13 @@ side_points_lem a k places =
     at m = ap (λ (x : Option Pair). kept_at m x) (get_or-map (side_kept a) places m silent) ∙ held m (get_or places m silent).point
 
 -- Both sides stand at the same boxes.
-pub side_count : (a b : Bool) (ps : List (Said Four)) → (points_of (side_points a ps)).count ≡ (points_of (side_points b ps)).count
+pub side_count : (a b : Drawn) (ps : List (Said Four)) → (points_of (side_points a ps)).count ≡ (points_of (side_points b ps)).count
 unfolding points_of side_points
 side_count a b ps = simp length-map
 
-same_boxes : (a b : Bool) (ps : List (Said Four)) → in_array 0 (λ p. p.box) (side_points a ps) ≡ in_array 0 (λ p. p.box) (side_points b ps)
+same_boxes : (a b : Drawn) (ps : List (Said Four)) → in_array 0 (λ p. p.box) (side_points a ps) ≡ in_array 0 (λ p. p.box) (side_points b ps)
 unfolding side_points in_array
 same_boxes a b ps = simp (length-map, map-map)
 
-pub side_boxes : (a b : Bool) (ps : List (Said Four)) → boxes_of (points_of (side_points a ps)) ≡ boxes_of (points_of (side_points b ps))
+pub side_boxes : (a b : Drawn) (ps : List (Said Four)) → boxes_of (points_of (side_points a ps)) ≡ boxes_of (points_of (side_points b ps))
 side_boxes a b ps = boxes_in (side_points a ps) ∙ same_boxes a b ps ∙ sym (boxes_in (side_points b ps))

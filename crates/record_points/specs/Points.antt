@@ -12,6 +12,8 @@ use Rattle.rules.specs.declared.Point.{Point}
 use Rattle.rules.specs.declared.Point.TheVariants.{Silent, Held}
 use Rattle.rules.specs.Numbers.{exponent}
 use Rattle.rules.specs.Steps.{Said}
+use Rattle.record_points.specs.declared.points.Drawn.{Drawn}
+use Rattle.record_points.specs.declared.points.Drawn.TheVariants.{Rows, Columns}
 use Rattle.interpolation.specs.declared.Numbered.{Numbered}
 use Rattle.interpolation.specs.declared.Points.{Points}
 use Rattle.interpolation.specs.Points.{nothing, boxes_of, firsts_of, seconds_of}
@@ -74,21 +76,21 @@ considered k p number keep = pick (leb k p.count) p (kept_point p number keep)
 -- ---- the sides of a sender's place
 
 -- "a and a' come from β, β', and b and b' from α, α'"
-abbrev pub side : Bool → Four → Pair
-side true f = record { first = f.beta; second = f.beta2 }
-side false f = record { first = f.alpha; second = f.alpha2 }
+abbrev pub side : Drawn → Four → Pair
+side Rows f = record { first = f.beta; second = f.beta2 }
+side Columns f = record { first = f.alpha; second = f.alpha2 }
 
-abbrev pub side_held : Bool → Point → Option Pair
+abbrev pub side_held : Drawn → Point → Option Pair
 side_held a Silent = None
 side_held a (Held f) = Some (side a f)
 
-abbrev pub side_kept : Bool → Place → Option Pair
+abbrev pub side_kept : Drawn → Place → Option Pair
 side_kept a place = side_held a place.point
 
-abbrev pub side_point : Bool → Said Four → Said Pair
+abbrev pub side_point : Drawn → Said Four → Said Pair
 side_point a p = record { box = p.box; says = side a p.says }
 
-unfoldable pub side_points : Bool → List (Said Four) → List (Said Pair)
+unfoldable pub side_points : Drawn → List (Said Four) → List (Said Pair)
 side_points a ps = map (side_point a) ps
 
 -- ---- what the functions ask

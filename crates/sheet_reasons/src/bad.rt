@@ -54,10 +54,11 @@ fn rest_bad(b: &[u8], n: usize, k: usize) -> Option<Bad>
         return None;
     }
     let m = good_lines(b, n, k);
-    let i = crate::lines::line_start(b, m + 1);
+    let before = m + 1;
+    let i = crate::lines::line_start(b, before);
     let own = own_reason(b, n, k, m, i);
     Some(Bad::Line {
-        before: (m + 1) as u16,
+        before: before as u16,
         reason: crate::reasons::line_reason(b, i, own),
     })
 }

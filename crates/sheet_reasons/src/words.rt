@@ -1,32 +1,34 @@
 // What is said of a bad sheet, in words.
-ghost use Rattle.std.specs.Prelude.{◌+◌, ◌≤◌, length};
-ghost use Rattle.text.specs.Puts.{Puts};
-ghost use Rattle.sheet_reasons.specs.Reasons.{reason_text, sheet_bad, bad_text, Room};
+ghost use Rattle.std.specs.Prelude.{◌+◌, ◌≤◌};
+ghost use Rattle.arrayvec.specs.ArrayVec.{array_vec_len};
+ghost use Rattle.text.specs.Pages.{Adds};
+ghost use Rattle.sheet_reasons.specs.Reasons.{reason_text, sheet_bad, bad_text};
 
+use arrayvec::ArrayVec;
 use crate::bad::{Bad, sheet_bad};
 use crate::reasons::Reason;
+use text::page::{put_numbered, put_word};
 
-fn put_reason(page: &mut [u8], at: usize, reason: Reason) -> usize
-    requires { at + 50 ≤ length page.old }
-    ensures { Puts page.old at (reason_text reason) 50 result page.new }
+#[tactic(auto, using(text::specs::Pages::adds_room), unfolding(crate::specs::Reasons::reason_text, rules::specs::Text::text))]
+fn put_reason<const N: usize>(page: &mut ArrayVec<u8, N>, reason: Reason)
+    requires { array_vec_len page.old + 50 ≤ N }
+    ensures { Adds page.old (reason_text reason) 50 page.new }
 {
     match reason {
-        Reason::Missing => text::write::put_word(page, at, b"missing\n"),
-        Reason::CarriageReturn => text::write::put_word(page, at, b"a carriage return\n"),
-        Reason::NoNewline => text::write::put_word(page, at, b"no newline at its end\n"),
-        Reason::TwoSpaces => text::write::put_word(page, at, b"two spaces\n"),
-        Reason::SpaceAtEdge => text::write::put_word(page, at, b"a space at its start or end\n"),
-        Reason::NotSheet => text::write::put_word(page, at, b"another word than sheet\n"),
-        Reason::OutOfOrder => text::write::put_word(page, at, b"a box out of order\n"),
-        Reason::NotSilent => text::write::put_word(page, at, b"another word than silent\n"),
-        Reason::TooFew => text::write::put_word(page, at, b"too few numbers\n"),
-        Reason::TooMany => text::write::put_word(page, at, b"too many numbers\n"),
-        Reason::NoDecimal => text::write::put_word(
-            page,
-            at,
-            b"not a decimal up to 65,535 without leading zeros\n",
-        ),
-        Reason::LineTooMany => text::write::put_word(page, at, b"a line too many\n"),
+        Reason::Missing => put_word(page, b"missing\n"),
+        Reason::CarriageReturn => put_word(page, b"a carriage return\n"),
+        Reason::NoNewline => put_word(page, b"no newline at its end\n"),
+        Reason::TwoSpaces => put_word(page, b"two spaces\n"),
+        Reason::SpaceAtEdge => put_word(page, b"a space at its start or end\n"),
+        Reason::NotSheet => put_word(page, b"another word than sheet\n"),
+        Reason::OutOfOrder => put_word(page, b"a box out of order\n"),
+        Reason::NotSilent => put_word(page, b"another word than silent\n"),
+        Reason::TooFew => put_word(page, b"too few numbers\n"),
+        Reason::TooMany => put_word(page, b"too many numbers\n"),
+        Reason::NoDecimal => {
+            put_word(page, b"not a decimal up to 65,535 without leading zeros\n");
+        }
+        Reason::LineTooMany => put_word(page, b"a line too many\n"),
     }
 }
 
@@ -34,18 +36,18 @@ fn put_reason(page: &mut [u8], at: usize, reason: Reason) -> usize
 pub const PAGE: usize = 128;
 
 // The line for the sheet b, or nothing.
-pub fn put(b: &[u8], page: &mut [u8]) -> usize
-    requires { Room page.old }
-    ensures { Puts page.old 0 (bad_text (sheet_bad b.now)) 128 result page.new }
+#[tactic(auto, using(text::specs::Pages::adds_then, text::specs::Pages::adds_room, text::specs::Pages::adds_none), unfolding(crate::specs::Reasons::bad_text, rules::specs::Text::text))]
+pub fn put<const N: usize>(b: &[u8], page: &mut ArrayVec<u8, N>)
+    requires { array_vec_len page.old + 128 ≤ N }
+    ensures { Adds page.old (bad_text (sheet_bad b.now)) 128 page.new }
 {
     match sheet_bad(b) {
-        None => 0,
-        Some(Bad::TooLong) => text::write::put_word(page, 0, b"sheet: over 4,096 bytes\n"),
+        None => {}
+        Some(Bad::TooLong) => put_word(page, b"sheet: over 4,096 bytes\n"),
         Some(Bad::Line { before, reason }) => {
-            let number = before as u32 + 1;
-            let next = text::write::put_numbered(page, 0, b"sheet: line ", number);
-            let next = text::write::put_word(page, next, b": ");
-            put_reason(page, next, reason)
+            put_numbered(page, b"sheet: line ", before + 1);
+            put_word(page, b": ");
+            put_reason(page, reason);
         }
     }
 }

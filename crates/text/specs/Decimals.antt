@@ -34,9 +34,6 @@ module _ (b : List ℕ) (i : ℕ) where
   pub byte_there : (c : ℕ) → i < length b → byte_at b i c ≡ eqb (get_or b i 0) c
   byte_there c h = ap (λ (t : Bool). t and eqb (get_or b i 0) c) (lt-ltb i (length b) h)
 
-  pub byte_behind : (c : ℕ) → length b ≤ i → byte_at b i c ≡ false
-  byte_behind c h = ap (λ (t : Bool). t and eqb (get_or b i 0) c) (le-ltb i (length b) h)
-
   pub byte_within : (c : ℕ) → byte_at b i c ≡ true → i < length b
   byte_within c h = ltb-true i (length b) (and_left (ltb i (length b)) (eqb (get_or b i 0) c) h)
 

@@ -1,8 +1,8 @@
 -- What a writer does: it adds bytes to a page.
 --
--- In order: bytes added; runs of them one behind the other; a loop that adds them; digits.
+-- In order: bytes added; runs of them one behind the other; a loop that adds them; digits; numbers; hexadecimal.
 -- Assumes nothing.
-use Rattle.std.specs.Prelude.{List, [], ◌∷◌, ◌++◌, ◌≡◌, refl, ℕ, ◌+◌, ◌-◌, ◌*◌, ◌/◌, ◌%◌, ◌^◌, ◌<◌, ◌≤◌, ltb, length, get_or, take, drop}
+use Rattle.std.specs.Prelude.{List, [], ◌∷◌, ◌++◌, ◌≡◌, ℕ, ◌+◌, ◌-◌, ◌*◌, ◌%◌, ◌^◌, ◌<◌, ◌≤◌, ltb, length, get_or, take, drop}
 use Rattle.std.proofs.Common.{append_assoc, append-nil, sym, ap, ◌∙◌, arith, div-one, lt-ltb, le-ltb, length-append, length-drop, length-take-le, get_or-take, get_or-drop, zero-add}
 use Rattle.std.specs.Fn.{Called}
 use Rattle.std.specs.Array.{IsMapOf}
@@ -100,9 +100,9 @@ numbers_of_map {xs = xs} {ys = ys} number d k h l closure =
     let long = h.long in
     let e : length (take k ys) ≡ k = length-take-le k ys (omega arith) in
     (rw e (gather-same _ _ k (λ i lt. ap (λ (x : ℕ). text " " ++ decimal x) (get_or-take k ys i 0 lt ∙ at i lt))), e)
-    where
-      at : (i : ℕ) → i < k → get_or ys i 0 ≡ number (get_or xs i d)
-      at i lt = let h' = h.at i d 0 (omega arith) in closure h'.0 h'.1 _ _ h'.2
+  where
+    at : (i : ℕ) → i < k → get_or ys i 0 ≡ number (get_or xs i d)
+    at i lt = let h' = h.at i d 0 (omega arith) in closure h'.0 h'.1 _ _ h'.2
 
 -- ---- hexadecimal
 

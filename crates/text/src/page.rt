@@ -1,5 +1,6 @@
 // Writers that add to a page, an array with a length of its own.
 ghost use Rattle.std.specs.Prelude.{◌≡◌, ◌+◌, ◌*◌, ◌≤◌, ◌<◌, ◌++◌, length};
+ghost use Rattle.rules.specs.Messages.{written};
 ghost use Rattle.rules.specs.Text.{decimal};
 ghost use Rattle.arrayvec.specs.ArrayVec.{array_vec_len};
 ghost use Rattle.text.specs.Hexadecimal.{glyph, hex_of};
@@ -79,4 +80,17 @@ pub fn put_numbers<const N: usize>(page: &mut ArrayVec<u8, N>, numbers: &[u16])
     for &x in numbers {
         put_numbered(page, b" ", x);
     }
+}
+
+// ---- a page that is lent as a slice
+
+// What stands on the page goes to the front of the slice; how many bytes that is.
+#[tactic(auto, unfolding(rules::specs::Messages::written))]
+pub fn copy_to<const N: usize>(page: &ArrayVec<u8, N>, out: &mut [u8]) -> usize
+    requires { array_vec_len page.now ≤ length out.old }
+    ensures { (result ≡ array_vec_len page.now) × (out.new ≡ written page.now.items out.old) }
+{
+    let n = page.len();
+    out[..n].copy_from_slice(page.as_slice());
+    n
 }

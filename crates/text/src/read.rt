@@ -1,6 +1,6 @@
 // Readers. A place may lie behind the end of the text: nothing stands there.
-ghost use Rattle.std.specs.Prelude.{◌≡◌, true, ◌+◌, ◌-◌, ◌≤◌, ◌<◌, length, drop};
-ghost use Rattle.rules.specs.Text.{byte_at, digit_at, word_at, digits_end, digits_say, number_place, number_at, numbers_at};
+ghost use Rattle.std.specs.Prelude.{◌≡◌, true, ◌+◌, ◌≤◌, ◌<◌, length, drop};
+ghost use Rattle.rules.specs.Text.{byte_at, word_at, digits_end, digits_say, number_place, number_at, numbers_at};
 ghost use Rattle.text.specs.Decimals.{decimal_in};
 ghost use Rattle.text.specs.Finds.{byte_from};
 

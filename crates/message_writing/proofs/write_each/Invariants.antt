@@ -1,5 +1,5 @@
 use Rattle.std.specs.Prelude.{ℕ, ◌*◌, ◌≤◌}
-use Rattle.rules.specs.Messages.{Message}
+use Rattle.rules.specs.declared.Message.{Message}
 use Rattle.message_writing.specs.Written.{EachWrites}
 use Rattle.message_writing.specs.Laws.{Sent}
 use Rattle.message_writing.proofs.write_each.Given as goal

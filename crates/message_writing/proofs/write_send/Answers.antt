@@ -1,6 +1,7 @@
 use native.Mathlib.Omega.{arith}
 use mathlib.Core.Path.{refl}
-use Rattle.rules.specs.Messages.{send, tag_of, body_of}
+use Rattle.rules.specs.declared.Message.TheVariants.{Send as send}
+use Rattle.rules.specs.Messages.{tag_of, body_of}
 use Rattle.message_writing.specs.Laws.{matrix_written}
 use Rattle.message_writing.proofs.write_send.Goals as goal
 

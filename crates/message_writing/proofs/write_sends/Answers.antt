@@ -1,6 +1,6 @@
 use Rattle.std.proofs.Common.{rules}
 use Rattle.std.specs.Prelude.{get_or}
-use Rattle.rules.specs.Messages.{send}
+use Rattle.rules.specs.declared.Message.TheVariants.{Send as send}
 use Rattle.message_writing.specs.Written.{no_polynomials}
 use Rattle.message_writing.proofs.write_sends.Goals as goal
 

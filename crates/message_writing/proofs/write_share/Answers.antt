@@ -1,6 +1,7 @@
 use native.Mathlib.Omega.{arith}
 use mathlib.Core.Path.{refl}
-use Rattle.rules.specs.Messages.{recovery, pair_bytes, tag_of, body_of}
+use Rattle.rules.specs.declared.Message.TheVariants.{Recovery as recovery}
+use Rattle.rules.specs.Messages.{pair_bytes, tag_of, body_of}
 use Rattle.message_writing.specs.Laws.{puts_then, message_written}
 use Rattle.message_writing.proofs.write_share.Goals as goal
 

@@ -1,5 +1,5 @@
 use Rattle.std.proofs.Common.{rules}
-use Rattle.rules.specs.Messages.{recovery}
+use Rattle.rules.specs.declared.Message.TheVariants.{Recovery as recovery}
 use Rattle.message_writing.proofs.write_shares.Goals as goal
 
 pub returns : goal.returns

@@ -1,5 +1,5 @@
 -- `put_entries` adds the rows of a matrix. The loop's invariant: those so far are added. Assumes nothing.
-use Rattle.std.proofs.Common.{List, ℕ, [], get_or}
+use Rattle.std.proofs.Common.{[], get_or}
 use Rattle.text.specs.Pages.{AddsRuns}
 use Rattle.console_page.specs.Reading.{numbers_text, row_number}
 use Rattle.console_page.proofs.messages.put_entries.Given as goal

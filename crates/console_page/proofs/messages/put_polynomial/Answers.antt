@@ -2,7 +2,6 @@
 use Rattle.std.proofs.Common.{rules, arith}
 use borrow.Author.Tests.{tests}
 use Rattle.rules.specs.Numbers.{exponent}
-use Rattle.rules.specs.Text.{text}
 use Rattle.text.specs.Pages.{adds_room, adds_then, numbers_of_map}
 use Rattle.console_page.specs.Reading.{numbers_text}
 use Rattle.console_page.proofs.messages.put_polynomial.Goals as goal

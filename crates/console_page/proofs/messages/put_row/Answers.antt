@@ -2,7 +2,6 @@
 use Rattle.std.proofs.Common.{rules, arith}
 use borrow.Author.Tests.{tests}
 use Rattle.rules.specs.Numbers.{element}
-use Rattle.rules.specs.Text.{text}
 use Rattle.text.specs.Pages.{adds_room, numbers_of_map}
 use Rattle.console_page.specs.Reading.{numbers_text}
 use Rattle.console_page.proofs.messages.put_row.Goals as goal

@@ -18,8 +18,8 @@ pub returns-then-rest_keeps : goal.returns-then-rest_keeps
 unfolding rest_bad
 returns-then-rest_keeps c = rw (sym c.rest_keeps.ensures ∙ c.if-rest_keeps.true)
 
-pub overflow_add-m : goal.overflow_add-m
-overflow_add-m c = omega (arith, few _ _ _ c.good_lines-m.ensures c.requires.boxes)
+pub overflow_add-before : goal.overflow_add-before
+overflow_add-before c = omega (arith, few _ _ _ c.good_lines-m.ensures c.requires.boxes)
 
 pub own_reason-own-requires : goal.own_reason-own-requires
 own_reason-own-requires c = (
@@ -29,9 +29,6 @@ own_reason-own-requires c = (
   },
   c.requires.high,
 )
-
-pub overflow_add-result : goal.overflow_add-result
-overflow_add-result c = omega (arith, few _ _ _ c.good_lines-m.ensures c.requires.boxes)
 
 pub overflow_cast-result : goal.overflow_cast-result
 overflow_cast-result c = omega (arith, few _ _ _ c.good_lines-m.ensures c.requires.boxes)

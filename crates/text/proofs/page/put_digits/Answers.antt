@@ -1,7 +1,7 @@
 -- `put_digits` adds digits. Assumes nothing.
-use Rattle.std.proofs.Common.{◌+◌, ◌≤◌, ◌≡◌, ◌-◌, ◌^◌, arith, ap, ◌∙◌}
+use Rattle.std.proofs.Common.{◌-◌, arith, ap, ◌∙◌}
 use Rattle.std.proofs.Math.Nat.{one-le-pow}
-use Rattle.text.specs.Pages.{Adds, digit_for, runs_none, runs_more, digit_added, digit_left, digits_all}
+use Rattle.text.specs.Pages.{runs_none, runs_more, digit_added, digit_left, digits_all}
 use Rattle.text.proofs.page.put_digits.Goals.{then-power-x, else-power-x}
 use Rattle.text.proofs.page.put_digits.Goals as goal
 
@@ -15,8 +15,9 @@ pub loop-j-preserved : goal.loop-j-preserved
 loop-j-preserved g c =
     runs_more c.loop-j.invariant
     (elim c.if-power-x.branch [
-      then-power-x w ↦ digit_added c.args.n c.args.x c.loop-j.j c.pow-power.ensures w.if-power-x.true (ap (λ p. p.items) w.page-is ∙ w.push.ensures.items)
-      | else-power-x w ↦ digit_left c.args.n c.args.x c.loop-j.j c.pow-power.ensures w.if-power-x.false w.page-is ])
+      | then-power-x w ↦ digit_added c.args.n c.args.x c.loop-j.j c.pow-power.ensures w.if-power-x.true (ap (λ p. p.items) w.page-is ∙ w.push.ensures.items)
+      | else-power-x w ↦ digit_left c.args.n c.args.x c.loop-j.j c.pow-power.ensures w.if-power-x.false w.page-is
+    ])
 
 pub returns : goal.returns
 returns g c = digits_all c.args.n c.args.x c.loop-j.invariant (omega arith) c.push-2.ensures.items
