@@ -10,7 +10,7 @@ use console_lines::said::Said;
 use console_lines::{reasons, said};
 use rules::{Outcome, Record, SetUp};
 
-// What the longest answer needs.
+// Room for the longest answer.
 pub const ROOM: usize = 16_384;
 
 // The box's record, and how many bytes it is lent.
@@ -44,7 +44,7 @@ pub fn new_bench() -> Bench {
     }
 }
 
-// A bad line; the program ends where the input does.
+// A bad line. `console_lines` writes into a slice from a place on, so what it wrote is copied.
 fn bad(reason: Reason, page: &mut ArrayVec<u8, ROOM>)
     requires { array_vec_len page.old ≡ 0 }
 {

@@ -24,6 +24,9 @@ module _ {page page' : ArrayVec ℕ} where
   pub adds_none : page' ≡ page → (most : ℕ) → Adds page [] most page'
   adds_none e most = rw e (record { put = sym (append-nil page.items); room = omega arith })
 
+  pub adds_byte : (x : ℕ) → page'.items ≡ page.items ++ x ∷ [] → Adds page (x ∷ []) 1 page'
+  adds_byte x e = record { put = e; room = omega (arith, ap length e, length-append page.items (x ∷ [])) }
+
   pub adds_room : {a : List ℕ} {m n : ℕ} → Adds page a m page' → m ≤ n → Adds page a n page'
   adds_room h l = record { put = h.put; room = let r = h.room in omega arith }
 
@@ -69,7 +72,7 @@ digits n x = gather n (digit_for n x) ++ digit_of x 1 ∷ []
 module _ (n x j : ℕ) {power : ℕ} {page page' : ArrayVec ℕ} (counts : power ≡ 10 ^ (n - j)) where
   -- the power is at most x: a digit; it is above x: none
   pub digit_added : power ≤ x → page'.items ≡ page.items ++ digit_of x power ∷ [] → Adds page (digit_for n x j) 1 page'
-  digit_added h e = rw (← counts, le-ltb x power h) (record { put = e; room = omega (arith, ap length e, length-append page.items (digit_of x power ∷ [])) })
+  digit_added h e = rw (← counts, le-ltb x power h) (adds_byte (digit_of x power) e)
 
   pub digit_left : x < power → page' ≡ page → Adds page (digit_for n x j) 1 page'
   digit_left h e = rw (← counts, lt-ltb x power h, e) (record { put = sym (append-nil page.items); room = omega arith })
@@ -78,8 +81,7 @@ pub digits_all : (n x : ℕ) {j : ℕ} {page next page' : ArrayVec ℕ} → Adds
     → page'.items ≡ next.items ++ (48 + x % 10) ∷ [] → Adds page (digits n x) (n + 1) page'
 unfolding digits
 digits_all n x {j} {page} {next} {page'} h i e =
-    let last : Adds next (digit_of x 1 ∷ []) 1 page' =
-    record { put = e ∙ ap (λ (y : ℕ). next.items ++ (48 + y % 10) ∷ []) (sym (div-one x)); room = omega (arith, ap length e, length-append next.items ((48 + x % 10) ∷ [])) } in
+    let last : Adds next (digit_of x 1 ∷ []) 1 page' = adds_byte (digit_of x 1) (e ∙ ap (λ (y : ℕ). next.items ++ (48 + y % 10) ∷ []) (sym (div-one x))) in
     adds_room (adds_then (runs_all h n n i (omega arith)) last) (omega arith)
 
 -- ---- numbers
