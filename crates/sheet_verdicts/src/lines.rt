@@ -1,5 +1,5 @@
 // The lines that are printed.
-ghost use Rattle.std.specs.Prelude.{◌≡◌, ◌+◌, ◌*◌, ◌≤◌, length};
+ghost use Rattle.std.specs.Prelude.{◌+◌, ◌≤◌, length};
 ghost use Rattle.rules.specs.Steps.{share_points};
 ghost use Rattle.rules.specs.Sheet.{verdict_text, box_lines, no_secret_line, last_line, sheet_lines};
 ghost use Rattle.arrayvec.specs.ArrayVec.{array_vec_len};
