@@ -47,6 +47,7 @@ struct Line {
 }
 
 // The line of box m + 1, if it stands from i on.
+#[tactic(auto, using(crate::specs::Laws::no_number, crate::specs::Laws::other_number, crate::specs::Laws::no_space, crate::specs::Laws::silent_line, crate::specs::Laws::no_pair, crate::specs::Laws::pair_line), unfolding(rules::specs::Text::text))]
 fn line_at(b: &[u8], i: usize, m: usize) -> Option<Line>
     requires { m < 10 }
     ensures { result ≡ line_in b.now i m }
@@ -92,6 +93,7 @@ fn boxes_place(b: &[u8], k: usize) -> usize
 }
 
 // The matrix, a line for each of n boxes, and nothing behind them.
+#[tactic(auto, using(crate::specs::Laws::some_line, crate::specs::Laws::line_place_more, folds::specs::Below::all_below_more), unfolding(rules::specs::Sheet::rest_keeps))]
 pub fn rest_keeps(b: &[u8], n: usize, k: usize) -> bool
     requires { FirstLine b.now n k }
     ensures { result ≡ rest_keeps b.now n k }
@@ -137,6 +139,7 @@ pub fn matrix(b: &[u8], k: usize) -> [[Element; 8]; 8]
 }
 
 // What boxes 1 to n say, once all has passed; box 1's stands at 0.
+#[tactic(auto, using(crate::specs::Laws::whole_entries, crate::specs::Laws::whole_line, crate::specs::Laws::line_there, crate::specs::Laws::some_line, crate::specs::Laws::line_place_more, folds::specs::Loops::filling_none, folds::specs::Loops::filling_more, folds::specs::Loops::filling_all), unfolding(rules::specs::Sheet::sheet_shares))]
 pub fn shares(b: &[u8], n: usize, k: usize) -> [Option<Pair>; 10]
     requires { Whole b.now n k }
     ensures { result ≡ sheet_shares b.now (boxes_place b.now k) n }

@@ -17,7 +17,7 @@ use text::page::put_word;
 pub const PAGE: usize = 512;
 
 // The sheet of a group and sizes that keep their rules.
-#[tactic(auto, using(text::specs::Pages::adds_room), unfolding(rules::specs::Sheet::body_printed, rules::specs::Text::text))]
+#[tactic(auto, using(text::specs::Pages::adds_room, rules::proofs::Laws::Numbers::sizes, rules::proofs::Laws::Numbers::group_sizes, sheet_form::specs::Laws::whole_entries), unfolding(rules::specs::Sheet::body_printed, rules::specs::Text::text))]
 fn put_body<const N: usize>(page: &mut ArrayVec<u8, N>, b: &[u8], u: SetUp)
     requires { Lawful b.now u × (array_vec_len page.old + 272 ≤ N) }
     ensures { Adds page.old (body_printed b.now u) 272 page.new }
