@@ -1,6 +1,4 @@
 // The parts of a line that say what a sum gave; a comma and a space stand between two numbers of a list.
-ghost use Rattle.std.specs.Prelude.{◌≤◌};
-
 use crate::dealt::Dealt;
 use printing::{listed, numbered, words};
 use rules::{Four, Pair, Polynomials};
@@ -13,16 +11,16 @@ pub fn pair(pair: Pair) {
 }
 
 // The coefficients of a, a', b, b', one list.
-pub fn polynomials(k: usize, all: Polynomials)
-    requires { k ≤ 8 }
-{
+pub fn polynomials(k: usize, all: Polynomials) {
     let Polynomials { a, a2, b, b2 } = all;
-    for (at, line) in [a, a2, b, b2].iter().enumerate() {
-        if 0 < at {
-            words(b", ");
-        }
-        listed(b", ", &line.map(|x| x.0)[..k]);
-    }
+    let lines = [a, a2, b, b2];
+    listed(
+        b", ",
+        lines
+            .iter()
+            .flat_map(|line| line.iter().take(k))
+            .map(|x| x.0),
+    );
 }
 
 // C, and the shares of boxes 1 to n, each behind its words.
@@ -53,10 +51,8 @@ pub fn share_checked(dealt: &Dealt, m: u16, share: Pair) {
 
 // At box i, from box m.
 pub fn point_checked(dealt: &Dealt, i: u16, m: u16, four: Four) {
-    listed(
-        b", ",
-        &[four.alpha.0, four.alpha2.0, four.beta.0, four.beta2.0],
-    );
+    let numbers = [four.alpha.0, four.alpha2.0, four.beta.0, four.beta2.0];
+    listed(b", ", numbers.into_iter());
     numbered(b" at box ", usize::from(i));
     numbered(b" from box ", usize::from(m));
     verdict(checking::point_check(dealt.group, dealt.k, dealt.c, i, m, four));

@@ -4,7 +4,9 @@
 
 pub mod showing;
 
-use rules::{Answer, Element, Pair, Sent, SetUp};
+ghost use Rattle.std.specs.Iterator.{IsFinite};
+
+use rules::{Answer, Element, Pair, Sent};
 
 // On standard output; a program that cannot write says so, each time that it tries.
 pub fn words(text: &[u8]) {
@@ -27,28 +29,31 @@ pub fn numbered(word: &[u8], x: usize) {
 
 // ---- lists: `between` stands before every number but the first
 
-pub fn listed(between: &[u8], numbers: &[u16]) {
-    for (at, x) in numbers.iter().enumerate() {
-        if 0 < at {
-            words(between);
-        }
-        number(usize::from(*x));
+pub fn listed<I: Iterator<Item = u16>>(between: &[u8], numbers: I)
+    requires can { I.can_next numbers }
+    requires ends { IsFinite (I.remaining numbers) }
+{
+    let mut before: &[u8] = b"";
+    for x in numbers {
+        numbered(before, usize::from(x));
+        before = between;
     }
 }
 
 // A list of two.
 pub fn pair(between: &[u8], pair: Pair) {
-    listed(between, &[pair.first.0, pair.second.0]);
+    listed(between, [pair.first.0, pair.second.0].into_iter());
 }
 
 // The first k rows and columns.
 pub fn matrix(between: &[u8], k: usize, c: [[Element; 8]; 8]) {
-    for (j, row) in c.iter().take(k).enumerate() {
-        if 0 < j {
-            words(between);
-        }
-        listed(between, &row.map(|e| e.0)[..k.min(SetUp::WIDTH)]);
-    }
+    listed(
+        between,
+        c.iter()
+            .take(k)
+            .flat_map(|row| row.iter().take(k))
+            .map(|e| e.0),
+    );
 }
 
 // ---- the line of an answer
