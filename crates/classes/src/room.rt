@@ -72,7 +72,7 @@ impl Room<'_> {
         }
     }
 
-    // Its line, and where they are asked for the messages; the box holds then what is new, and what it sent.
+    // Its line, and where they are asked for the messages. The box then holds its new record, and what it sent.
     fn call(&mut self, call: Call, from: u32, to: u32)
         requires { (1 ≤ from) × (from ≤ 10) × (1 ≤ to) × (to ≤ 10) }
     {
