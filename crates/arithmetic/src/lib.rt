@@ -2,6 +2,8 @@
 // take the other. Every function asks for a modulus above 0; ranges beyond that are said where they are needed.
 #![tactic(auto)]
 
+pub mod matrices;
+
 ghost use Rattle.std.specs.Prelude.{◌≡◌, ◌+◌, ◌-◌, ◌*◌, ◌%◌, ◌^◌, ◌<◌, ◌≤◌};
 ghost use Rattle.algebra.specs.Residues.{inverse};
 ghost use Rattle.rules.specs.Numbers.{exponent, element};
@@ -13,7 +15,7 @@ fn product_modulo(m: u16, x: u16, y: u16) -> u16
     requires { 0 < m }
     ensures { result ≡ (x * y) % m }
 {
-    (x as u32 * y as u32 % m as u32) as u16
+    (u32::from(x) * u32::from(y) % u32::from(m)) as u16
 }
 
 // ---- exponents
@@ -23,7 +25,7 @@ pub fn sum(q: u16, x: Exponent, y: Exponent) -> Exponent
     requires { 0 < q }
     ensures { result ≡ exponent ((x.0 + y.0) % q) }
 {
-    Exponent(((x.0 as u32 + y.0 as u32) % q as u32) as u16)
+    Exponent(((u32::from(x.0) + u32::from(y.0)) % u32::from(q)) as u16)
 }
 
 // x - y, for a y that is at most q.
@@ -78,7 +80,7 @@ pub fn power(p: u16, e: Element, x: Exponent) -> Element
             made = times(p, made, base);
         }
         base = times(p, base, base);
-        left = left / 2;
+        left /= 2;
     }
     made
 }
@@ -88,25 +90,18 @@ pub fn commit(group: Group, x: Exponent, y: Exponent) -> Element
     requires { 0 < group.p }
     ensures { result ≡ element (committed group x.0 y.0) }
 {
-    let p = group.p;
-    let g = group.g;
-    let h = group.h;
-    times(p, power(p, g, x), power(p, h, y))
+    times(
+        group.p,
+        power(group.p, group.g, x),
+        power(group.p, group.h, y),
+    )
 }
 
 // Refusal 8 does not hold of this entry.
+#[tactic(auto, unfolding(rules::specs::Dealing::in_group))]
 pub fn is_element(group: Group, e: Element) -> bool
     requires { 0 < group.p }
     ensures { result ≡ in_group group e.0 }
 {
-    if e.0 == 0 {
-        return false;
-    }
-    let p = group.p;
-    if p <= e.0 {
-        return false;
-    }
-    let q = group.q;
-    let one = power(p, e, Exponent(q));
-    one.0 == 1
+    e.0 != 0 && e.0 < group.p && power(group.p, e, Exponent(group.q)).0 == 1
 }

@@ -1,104 +1,95 @@
-// Rows 8 to 10 of the table, what a message says: the number of the first row that holds, 0 where none does. No function
-// changes anything.
+// Rows 8 to 10 of the table, what a message says: the refusal of the first row that holds. No function changes anything.
 #![tactic(auto)]
 
-ghost use Rattle.std.specs.Prelude.{◌≡◌, true};
-ghost use Rattle.rules.specs.Messages.{message_in};
+ghost use Rattle.std.specs.Prelude.{◌≡◌, true, ◌≤◌};
 ghost use Rattle.rules.specs.Record.{sound};
+ghost use Rattle.rules.specs.Refusals.{refusal_of};
 ghost use Rattle.rules.specs.Answers.{first_of, exponents_keep, share_checks, checks, hearing_rows};
+ghost use Rattle.rules.specs.Laws.Numbers.{Ranges};
 ghost use Rattle.rules.specs.Laws.Passed.{Hearing};
-ghost use Rattle.box_hearing.specs.Known.{Readable, matrix_fails, Checked};
+ghost use Rattle.box_hearing.specs.Known.{matrix_fails, Checked};
 
-use rules::{Pair, Record, SetUp};
+use rules::{Message, Pair, Record, Refusal, SetUp};
 
-// 8.
-fn matrix_fails(u: SetUp, bytes: &[u8]) -> bool
-    requires { Readable u bytes.now }
-    ensures { result ≡ matrix_fails u bytes.now }
+// 8: a recovery share has no matrix.
+fn matrix_fails(u: SetUp, message: Message) -> bool
+    requires { Ranges u }
+    ensures { result ≡ matrix_fails u message }
 {
-    if 3 < bytes[0] {
-        return false;
+    match message {
+        Message::Send(c, _) | Message::Echo(c, _) | Message::Ready(c, _) => {
+            !checking::matrix_passes(session_numbers::group_of(u), u.k as usize, c)
+        }
+        Message::Recovery(_) => false,
     }
-    let group = session_numbers::group_of(u);
-    let c = message_reading::read_matrix(bytes, u);
-    !checking::matrix_passes(group, u.k as usize, c)
 }
 
 // 9 does not hold.
-fn exponents_keep(u: SetUp, bytes: &[u8]) -> bool
-    requires { Readable u bytes.now }
-    ensures { result ≡ exponents_keep u (message_in u bytes.now) }
+fn exponents_keep(u: SetUp, message: Message) -> bool
+    requires { Ranges u }
+    ensures { result ≡ exponents_keep u message }
 {
-    let group = session_numbers::group_of(u);
-    let tag = bytes[0];
-    if tag == 1 {
-        let all = message_reading::read_polynomials(bytes, u);
-        return checking::polynomials_below(group.q, u.k as usize, all);
+    let q = session_numbers::group_of(u).q;
+    match message {
+        Message::Send(_, all) => checking::polynomials_below(q, u.k as usize, all),
+        Message::Echo(_, four) | Message::Ready(_, four) => checking::four_below(q, four),
+        Message::Recovery(pair) => checking::pair_below(q, pair),
     }
-    if tag == 4 {
-        let pair = message_reading::read_pair(bytes);
-        return checking::pair_below(group.q, pair);
-    }
-    let four = message_reading::read_four(bytes, u);
-    checking::four_below(group.q, four)
 }
 
 // The share check against the completed matrix.
+#[tactic(auto, unfolding(rules::specs::Record::matrix_of))]
 fn share_passes(x: Record, number: u16, pair: Pair) -> bool
     requires { sound x ≡ true }
     ensures { result ≡ share_checks x x.progress.completion number pair }
 {
     let u = x.setup;
-    let group = session_numbers::group_of(u);
-    let progress = x.progress;
-    let completion = progress.completion;
-    match completion {
+    match x.progress.completion {
         None => false,
-        Some(s) => {
-            let slot = x.slots[s];
-            let rows = slot.rows;
-            let c = rows;
-            checking::share_check(group, u.k as usize, c, number, pair)
-        }
+        Some(s) => checking::share_check(
+            session_numbers::group_of(u),
+            u.k as usize,
+            x.slots[s].rows,
+            number,
+            pair,
+        ),
     }
 }
 
 // 10 does not hold: the check of its kind.
-fn checks_out(x: Record, sender: u32, bytes: &[u8]) -> bool
-    requires { Checked x sender bytes.now }
-    ensures { result ≡ checks x sender (message_in x.setup bytes.now) }
+#[tactic(auto, using(crate::specs::Known::send_checkable, crate::specs::Known::echo_checkable, crate::specs::Known::ready_checkable))]
+fn checks_out(x: Record, sender: u16, message: Message) -> bool
+    requires { Checked x message }
+    ensures { result ≡ checks x sender message }
 {
-    let tag = bytes[0];
-    if tag == 4 {
-        let pair = message_reading::read_pair(bytes);
-        return share_passes(x, sender as u16, pair);
-    }
     let u = x.setup;
     let k = u.k as usize;
     let group = session_numbers::group_of(u);
-    let c = message_reading::read_matrix(bytes, u);
-    if tag == 1 {
-        let all = message_reading::read_polynomials(bytes, u);
-        return checking::polynomial_check(group, k, c, u.i as u16, all);
+    let own = u.i as u16;
+    match message {
+        Message::Send(c, all) => checking::polynomial_check(group, k, c, own, all),
+        Message::Echo(c, four) | Message::Ready(c, four) => {
+            checking::point_check(group, k, c, own, sender, four)
+        }
+        Message::Recovery(pair) => share_passes(x, sender, pair),
     }
-    let four = message_reading::read_four(bytes, u);
-    checking::point_check(group, k, c, u.i as u16, sender as u16, four)
 }
 
 // 8 to 10.
-pub fn hearing(x: Record, sender: u32, bytes: &[u8]) -> u8
+#[tactic(auto, using(crate::specs::Known::sender_small))]
+pub fn hearing(x: Record, sender: u32, bytes: &[u8]) -> Result<(), Refusal>
     requires { Hearing x sender bytes.now }
-    ensures { result ≡ first_of (hearing_rows x sender bytes.now) }
+    ensures { refusal_of result ≡ first_of (hearing_rows x sender bytes.now) }
 {
-    let u = x.setup;
-    if matrix_fails(u, bytes) {
-        return 8;
+    let message = message_reading::read(bytes, x.setup);
+    if matrix_fails(x.setup, message) {
+        return Err(Refusal::MatrixEntry);
     }
-    if !exponents_keep(u, bytes) {
-        return 9;
+    if !exponents_keep(x.setup, message) {
+        return Err(Refusal::ExponentHigh);
     }
-    if !checks_out(x, sender, bytes) {
-        return 10;
+    if !checks_out(x, sender as u16, message) {
+        return Err(Refusal::CheckFails);
     }
-    0
+    Ok(())
 }

@@ -1,102 +1,92 @@
-// The rows of the table that a call has of its own, up to the hearing: the number of the first row that holds, 0 where none
-// does. No function changes anything.
+// The rows of the table that a call has of its own, up to the hearing: the refusal of the first row that holds. No function
+// changes anything.
 #![tactic(auto)]
 
 ghost use Rattle.std.specs.Prelude.{◌≡◌};
+ghost use Rattle.rules.specs.Refusals.{refusal_of};
 ghost use Rattle.rules.specs.Answers.{first_of, set_up_rows, own_deal_rows, own_recover_rows, form_rows, turn_rows};
 ghost use Rattle.rules.specs.Laws.Numbers.{Ranges};
 ghost use Rattle.box_refusals.specs.Known.{InForm};
 
-use rules::{Record, SetUp};
+use rules::{Record, Refusal, SetUp};
 
 // 11, 12.
-pub fn set_up(u: SetUp) -> u8
-    ensures { result ≡ first_of (set_up_rows u) }
+#[tactic(auto, unfolding(rules::specs::Answers::first_row, rules::specs::Answers::set_up_rows))]
+pub fn set_up(u: SetUp) -> Result<(), Refusal>
+    ensures { refusal_of result ≡ first_of (set_up_rows u) }
 {
     if !session_numbers::group_keeps(u) {
-        return 11;
+        return Err(Refusal::NoGroup);
     }
     if !session_numbers::numbers_keep(u) {
-        return 12;
+        return Err(Refusal::RuleBroken);
     }
-    0
+    Ok(())
 }
 
 // 13, 14.
-pub fn deal(x: Record, secret: u32, coins: &[u16]) -> u8
+#[tactic(auto, unfolding(rules::specs::Answers::first_row, rules::specs::Answers::own_deal_rows))]
+pub fn deal(x: Record, secret: u32, coins: &[u16]) -> Result<(), Refusal>
     requires { Ranges x.setup }
-    ensures { result ≡ first_of (own_deal_rows x secret coins.now) }
+    ensures { refusal_of result ≡ first_of (own_deal_rows x secret coins.now) }
 {
-    let u = x.setup;
-    if u.i != u.d {
-        return 13;
+    if x.setup.i != x.setup.d || x.progress.dealt {
+        return Err(Refusal::OutOfTurn);
     }
-    let progress = x.progress;
-    if progress.dealt {
-        return 13;
+    if !coins::coins_keep(x.setup, secret, coins) {
+        return Err(Refusal::SecretOrCoins);
     }
-    if !coins::coins_keep(u, secret, coins) {
-        return 14;
-    }
-    0
+    Ok(())
 }
 
 // 13.
 #[tactic(auto, unfolding(rules::specs::Answers::first_row, rules::specs::Answers::own_recover_rows))]
-pub fn recover(x: Record) -> u8
-    ensures { result ≡ first_of (own_recover_rows x) }
+pub fn recover(x: Record) -> Result<(), Refusal>
+    ensures { refusal_of result ≡ first_of (own_recover_rows x) }
 {
-    let progress = x.progress;
-    let completion = progress.completion;
-    if !completion.is_some() {
-        return 13;
+    if x.progress.completion.is_none() || x.progress.commanded {
+        return Err(Refusal::OutOfTurn);
     }
-    if progress.commanded {
-        return 13;
-    }
-    0
+    Ok(())
 }
 
 // 1 to 3: the message is one for this box.
-pub fn form(u: SetUp, sender: u32, bytes: &[u8]) -> u8
+#[tactic(auto, using(rules::proofs::Laws::RoundTrip::header), unfolding(rules::specs::Answers::first_row, rules::specs::Answers::form_rows))]
+pub fn form(u: SetUp, sender: u32, bytes: &[u8]) -> Result<(), Refusal>
     requires { Ranges u }
-    ensures { result ≡ first_of (form_rows u sender bytes.now) }
+    ensures { refusal_of result ≡ first_of (form_rows u sender bytes.now) }
 {
     if !session_numbers::is_box(u, sender) {
-        return 1;
+        return Err(Refusal::NoBox);
     }
     if message_reading::is_malformed(bytes, u) {
-        return 2;
+        return Err(Refusal::Malformed);
     }
     if message_reading::is_foreign(bytes, u) {
-        return 3;
+        return Err(Refusal::Foreign);
     }
-    0
+    Ok(())
 }
 
 // 4 to 7: its sender may say it now.
-pub fn turn(x: Record, sender: u32, bytes: &[u8]) -> u8
+#[tactic(auto, unfolding(rules::specs::Answers::first_row, rules::specs::Answers::turn_rows))]
+pub fn turn(x: Record, sender: u32, bytes: &[u8]) -> Result<(), Refusal>
     requires { InForm x.setup sender bytes.now }
-    ensures { result ≡ first_of (turn_rows x sender bytes.now) }
+    ensures { refusal_of result ≡ first_of (turn_rows x sender bytes.now) }
 {
-    let u = x.setup;
     let tag = bytes[0];
-    if tag == 1 && sender != u.d {
-        return 4;
+    if tag == 1 && sender != x.setup.d {
+        return Err(Refusal::NotTheDealer);
     }
-    let progress = x.progress;
-    let completion = progress.completion;
-    let recovering = completion.is_some() && progress.commanded;
-    if tag == 4 && !recovering {
-        return 5;
+    if tag == 4 && !(x.progress.completion.is_some() && x.progress.commanded) {
+        return Err(Refusal::ShareEarly);
     }
-    let recovered = x.recovered;
-    if tag == 4 && recovered.is_some() {
-        return 6;
+    if tag == 4 && x.recovered.is_some() {
+        return Err(Refusal::ShareLate);
     }
-    let m = (sender - 1) as usize;
+    let m = sender as usize - 1;
     if record_reading::is_heard(x, tag, m) {
-        return 7;
+        return Err(Refusal::AlreadyHeard);
     }
-    0
+    Ok(())
 }

@@ -1,7 +1,7 @@
 -- The steps that code makes, and the outcome of one that is accepted.
 -- Assumes nothing.
 use Rattle.std.specs.Prelude.{false, ℕ}
-use Rattle.std.specs.Prelude.{Option, Some, None, is_some}
+use Rattle.std.specs.Prelude.{None, is_some}
 use Rattle.rules.specs.declared.Outcome.{Outcome}
 use Rattle.rules.specs.declared.Record.{Record}
 use Rattle.rules.specs.declared.Sent.{Sent}

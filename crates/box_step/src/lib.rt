@@ -2,10 +2,11 @@
 #![tactic(auto)]
 
 ghost use Rattle.std.specs.Prelude.{◌≡◌};
-ghost use Rattle.rules.specs.Answers.{no_pair, pair_told, refused};
+ghost use Rattle.rules.specs.Refusals.{refusal_number};
+ghost use Rattle.rules.specs.Answers.{no_pair, refused};
 ghost use Rattle.box_step.specs.Told.{quietly, sends, told};
 
-use rules::{Answer, Exponent, Outcome, Pair, Record, Sent};
+use rules::{Answer, Exponent, Outcome, Pair, Record, Refusal, Sent};
 
 // What is sent stands at the front of the lent buffer: here is how many bytes it takes.
 #[derive(Clone, Copy)]
@@ -28,13 +29,12 @@ pub fn quiet(after: Record) -> Step
 pub fn sending(after: Record, sent: Sent, bytes: usize) -> Step
     ensures { result ≡ sends after sent bytes }
 {
-    let recovered = None;
     Step {
         after,
         sent,
         bytes,
         completed: false,
-        recovered,
+        recovered: None,
     }
 }
 
@@ -47,51 +47,36 @@ fn no_pair() -> Pair
     }
 }
 
-fn pair_told(kept: Option<Pair>) -> Pair
-    ensures { result ≡ pair_told kept }
-{
-    match kept {
-        None => no_pair(),
-        Some(pair) => pair,
-    }
-}
-
 // 0, with what the step sent and told.
 pub fn accept(step: Step) -> Outcome
     ensures { result ≡ told step }
 {
-    let keep = step.recovered;
-    let kept = keep;
-    let recovered = keep.is_some();
-    let pair = pair_told(kept);
-    let sent = step.sent;
-    let next = step.after;
     Outcome {
         answer: Answer {
             no: 0,
-            sent,
+            sent: step.sent,
             bytes: step.bytes,
             completed: step.completed,
-            recovered,
-            pair,
+            recovered: step.recovered.is_some(),
+            pair: step.recovered.unwrap_or(no_pair()),
         },
-        next,
+        next: step.after,
     }
 }
 
 // A refusal gives its number and otherwise zeros.
-pub fn refuse(next: Record, no: u8) -> Outcome
-    ensures { result ≡ refused no next }
+#[tactic(auto, unfolding(rules::specs::Answers::refused))]
+pub fn refuse(next: Record, refusal: Refusal) -> Outcome
+    ensures { result ≡ refused (refusal_number refusal) next }
 {
-    let pair = no_pair();
     Outcome {
         answer: Answer {
-            no,
+            no: refusal.number(),
             sent: Sent::Nothing,
             bytes: 0,
             completed: false,
             recovered: false,
-            pair,
+            pair: no_pair(),
         },
         next,
     }

@@ -1,14 +1,15 @@
 -- Laws that the proofs of the steps share.
 --
--- In order: a sender; a message to each box from ten places; the way that an echo or a ready goes, and a recovery share; the
--- coins of a deal.
+-- In order: a sender; a message to each box from ten places; the way that an echo or a ready goes, and a recovery share; a message
+-- that was read; the coins of a deal.
 -- Assumes nothing.
-use Rattle.std.specs.Prelude.{true, false, List, [], ◌≡◌, refl, ℕ, ◌+◌, ◌-◌, ◌*◌, ◌<◌, ◌≤◌, length, replicate, eqb}
+use Rattle.std.specs.Prelude.{Option, Some, None, is_some, take, true, false, List, [], ◌≡◌, refl, ℕ, ◌+◌, ◌-◌, ◌*◌, ◌<◌, ◌≤◌, length, replicate, eqb}
 use Rattle.std.proofs.Math.Path.{ap}
-use Rattle.std.proofs.Common.{ap₂, ◌∙◌}
+use Rattle.std.proofs.Common.{ap₂, ◌∙◌, sym, subst}
+use lib.Seq.{take_all}
 use native.Mathlib.Omega.{arith}
 use Rattle.std.proofs.Math.ListN.{get_or}
-use Rattle.folds.specs.Runs.{gather-same}
+use Rattle.folds.specs.Runs.{gather-same, length-gather_count}
 use Rattle.folds.specs.Stores.{get_or-stores}
 use Rattle.rules.specs.declared.Element.{Element}
 use Rattle.rules.specs.declared.Four.{Four}
@@ -19,11 +20,16 @@ use Rattle.rules.specs.declared.Side.{Side}
 use Rattle.rules.specs.declared.Slot.{Slot}
 use Rattle.rules.specs.Numbers.{group_of}
 use Rattle.rules.specs.Matrices.{to_boxes}
-use Rattle.rules.specs.Messages.{Message, bytes_of, to_each, side_tag}
+use Rattle.rules.specs.declared.Message.{Message}
+use Rattle.rules.specs.Messages.{bytes_of, to_each, side_tag, tag_in, tag_of, message_in}
 use Rattle.rules.specs.Dealing.{coins_keep}
-use Rattle.rules.specs.Record.{slot_at, heard_for, shares_kept}
-use Rattle.rules.specs.Steps.{heard, own_slot, free_slot, slot_for, opened, taken, with_slot, lowest, ready_sent, quiet, completed, ready_due, completion_due, point_at, point_step, sending, share_step, recovering, sharing, Step}
+use Rattle.rules.specs.Record.{slot_at, heard_for, shares_kept, share_at}
+use Rattle.rules.specs.Steps.{heard, own_slot, free_slot, slot_for, opened, taken, with_slot, lowest, ready_sent, quiet, completed, ready_due, completion_due, point_at, point_step, sending, share_step, recovering, sharing, Step, kept_at, share_points}
 use Rattle.rules.specs.Laws.Numbers.{GroupRanges, Ranges}
+use Rattle.rules.specs.Laws.Passed.{Hearing, DealPassed}
+use Rattle.rules.specs.Laws.RoundTrip.{Formed}
+use Rattle.rules.proofs.Laws.RoundTrip.{by_tag, is_send_lem, is_echo_lem, is_ready_lem, is_recovery_lem}
+use Rattle.rules.proofs.Laws.Room.{room}
 use Rattle.rules.proofs.Laws.Matrices.{square_some}
 use Rattle.rules.proofs.Laws.Sound.{sound_ranges}
 use Rattle.rules.proofs.Laws.Dealing.{secret_low, coins_count}
@@ -36,7 +42,7 @@ use Rattle.rules.proofs.Laws.Facts.{hears, ear}
 use Rattle.rules.specs.declared.Side.TheVariants.{ByEcho, ByReady}
 use Rattle.rules.specs.declared.Pair.{Pair}
 use Rattle.rules.specs.declared.Sent.{Sent}
-use Rattle.folds.specs.Tests.{pick-either}
+use Rattle.folds.specs.Tests.{pick, pick-either}
 
 -- ---- a sender
 
@@ -95,6 +101,19 @@ pub point_at_lem : (b : Side) (x : Record) (m : ℕ) (C : List (List Element)) (
 unfolding point_step
 point_at_lem b x m C f found fresh = rw (fresh, found)
 
+-- the slot is one of the twenty
+pub slot_within : (x : Record) (m : ℕ) (b : Side) (C : List (List Element)) {s : ℕ} → Sender x m → heard_for x (side_tag b) m ≡ false
+    → s ≡ slot_for x C → s < 20
+slot_within x m b C here unheard e = rw e (room x m C here.is_sound here.sender b (side_hears b x m unheard)).within
+
+-- the step goes by the slot as it now is
+pub point_goes : (b : Side) (x : Record) (m : ℕ) (C : List (List Element)) (f : Four) {s : ℕ} {clear fresh : Slot} → s ≡ slot_for x C
+    → clear ≡ opened C (slot_at x s) → fresh ≡ taken b clear m f
+    → point_step b (heard x (side_tag b) m) m C f ≡ point_at b (heard x (side_tag b) m) s fresh
+unfolding heard
+point_goes b x m C f found anew made =
+    point_at_lem b (heard x (side_tag b) m) m C f (found ∙ heard_slot x (side_tag b) m C) (made ∙ ap (λ slot. taken b slot m f) anew)
+
 module _ (b : Side) (x : Record) (s : ℕ) (slot : Slot) where
   pub point_sends : ready_due x.setup b slot ≡ true → point_at b x s slot ≡ ready_sent x s slot (lowest x slot)
   unfolding point_at
@@ -114,6 +133,38 @@ unfolding share_step recovering
 share_silent x m s =
     pick-either (λ (S : Step). S.bytes ≡ []) (eqb (shares_kept (sharing x m s)) x.setup.k) _ _ (λ e. refl) (λ e. refl)
 
+-- there are as many points as shares kept
+length-share_points : (keeps : List (Option Pair)) → length (share_points keeps) ≡ shares_kept keeps
+unfolding share_points shares_kept
+length-share_points keeps =
+    length-gather_count (λ m. kept_at m (share_at keeps m)) (λ m. is_some (share_at keeps m)) (λ m. one m (share_at keeps m)) 10
+  where
+    one : (m : ℕ) (kept : Option Pair) → length (kept_at m kept) ≡ pick (is_some kept) 1 0
+    one m None = refl
+    one m (Some s) = refl
+
+-- where k are kept, the first k are all
+pub all-taken : (keeps : List (Option Pair)) (k : ℕ) → shares_kept keeps ≡ k → take k (share_points keeps) ≡ share_points keeps
+all-taken keeps k e = take_all k (share_points keeps) (omega (arith, length-share_points keeps))
+
+-- ---- a message that was read
+
+-- its tag is that of its bytes
+said_tag : (u : SetUp) (bytes : List ℕ) → Formed u bytes → tag_in bytes ≡ tag_of (message_in u bytes)
+unfolding tag_of
+said_tag u bytes r =
+    by_tag u bytes r
+    (λ e. rw (is_send_lem u bytes e, e))
+    (λ e. rw (is_echo_lem u bytes e, e))
+    (λ e. rw (is_ready_lem u bytes e, e))
+    (λ e. rw (is_recovery_lem u bytes e, e))
+
+-- for which its sender was not heard
+pub unheard : (x : Record) (sender : ℕ) (bytes : List ℕ) {m : Message} → Hearing x sender bytes → m ≡ message_in x.setup bytes
+    → heard_for x (tag_of m) (sender - 1) ≡ false
+unheard x sender bytes h e =
+    subst (λ t. heard_for x t (sender - 1) ≡ false) (said_tag x.setup bytes h.form ∙ ap tag_of (sym e)) h.unheard
+
 -- ---- the coins of a deal
 
 pub record CoinRanges (u : SetUp) (secret : ℕ) (coins : List ℕ) : Type 0 where
@@ -121,8 +172,11 @@ pub record CoinRanges (u : SetUp) (secret : ℕ) (coins : List ℕ) : Type 0 whe
   pub first : 0 + u.k * u.k ≤ length coins + 1
   pub both : u.k * u.k + u.k * u.k ≤ length coins + 1
 
-pub coin_ranges : (u : SetUp) (secret : ℕ) (coins : List ℕ) → 1 ≤ u.k → coins_keep u secret coins ≡ true → CoinRanges u secret coins
+coin_ranges : (u : SetUp) (secret : ℕ) (coins : List ℕ) → 1 ≤ u.k → coins_keep u secret coins ≡ true → CoinRanges u secret coins
 coin_ranges u secret coins l h =
     let count = coins_count u secret coins h in
     let some = square_some u.k l in
     record { below = secret_low u secret coins h; first = omega arith; both = omega arith }
+
+pub deal_coins : {x : Record} {secret : ℕ} {coins : List ℕ} {lent : ℕ} → DealPassed x secret coins lent → CoinRanges x.setup secret coins
+deal_coins {x} p = coin_ranges _ _ _ (omega (arith, (sound_ranges x p.called.is_sound).low)) p.keeps

@@ -2,9 +2,9 @@
 // least, which is more than any step writes.
 #![tactic(auto)]
 
-ghost use Rattle.std.specs.Prelude.{◌≡◌, false, ◌-◌, ◌<◌, ◌≤◌, length};
+ghost use Rattle.std.specs.Prelude.{◌≡◌, true, false, ◌-◌, ◌<◌, ◌≤◌, length};
 ghost use Rattle.rules.specs.Messages.{tag_in, has_matrix, message_in, side_tag};
-ghost use Rattle.rules.specs.Record.{heard_for};
+ghost use Rattle.rules.specs.Record.{heard_for, sound};
 ghost use Rattle.rules.specs.Steps.{heard, lowest, ready_sent, completed, send_step, point_step, recovering, share_step, message_step, deal_step, completed_share, share_bytes, recover_step};
 ghost use Rattle.rules.specs.Answers.{refusal_heard};
 ghost use Rattle.rules.specs.Laws.Numbers.{Ranges};
@@ -14,7 +14,7 @@ ghost use Rattle.box_step.specs.Takes.{made, Takes};
 ghost use Rattle.box_steps.specs.Sender.{Sender, Speaks};
 
 use box_step::Step;
-use rules::{Element, Four, Pair, Polynomials, Record, Sent, SetUp, Side, Slot};
+use rules::{Element, Four, Message, Pair, Polynomials, Record, Sent, Side, Slot};
 
 // ---- messages
 
@@ -37,12 +37,8 @@ fn send_ready(out: &mut [u8], x: Record, side: Side, m: usize, s: usize, fresh: 
 {
     let u = x.setup;
     let group = session_numbers::group_of(u);
-    let places = fresh.places;
-    let ready = record_points::ready_from(group.q, u.k as usize, u.n as usize, places);
-    let rows = fresh.rows;
-    let c = rows;
-    let fours = ready.fours;
-    let bytes = message_writing::write_points(out, u, Side::ByReady, c, fours);
+    let ready = record_points::ready_from(group.q, u.k as usize, u.n as usize, fresh.places);
+    let bytes = message_writing::write_points(out, u, Side::ByReady, fresh.rows, ready.fours);
     let kept = record_slots::with_pair(fresh, ready.pair);
     box_step::sending(
         record_writing::heard_at_slot(x, side, m, s, kept),
@@ -52,20 +48,13 @@ fn send_ready(out: &mut [u8], x: Record, side: Side, m: usize, s: usize, fresh: 
 }
 
 // The box completes, if it has not before.
+#[tactic(auto, unfolding(box_step::specs::Takes::made, rules::specs::Steps::completed))]
 fn complete(x: Record, s: usize) -> Step
     ensures { result ≡ made (completed x s) }
 {
-    let progress = x.progress;
-    let completion = progress.completion;
-    let before = completion.is_some();
-    let after = record_writing::completed_with(x, s);
-    let recovered = None;
     Step {
-        after,
-        sent: Sent::Nothing,
-        bytes: 0,
-        completed: !before,
-        recovered,
+        completed: x.progress.completion.is_none(),
+        ..box_step::quiet(record_writing::completed_with(x, s))
     }
 }
 
@@ -82,41 +71,34 @@ fn take_point(
     ensures { Takes (point_step side (heard x (side_tag side) m) m c four) out.old result out.new }
 {
     let s = record_slots::slot_for(x, c);
-    let old = x.slots[s];
-    let open = record_slots::opened_for(c, old);
+    let open = record_slots::opened_for(c, x.slots[s]);
     let fresh = record_slots::with_point(open, side, m, four);
-    let u = x.setup;
-    if record_slots::due::ready_due(u, side, fresh) {
+    if record_slots::due::ready_due(x.setup, side, fresh) {
         return send_ready(out, x, side, m, s, fresh);
     }
     let next = record_writing::heard_at_slot(x, side, m, s, fresh);
-    if record_slots::due::completion_due(u, side, fresh) {
+    if record_slots::due::completion_due(x.setup, side, fresh) {
         return complete(next, s);
     }
     box_step::quiet(next)
 }
 
 // What these recovery shares give: the pair, where they are k.
+#[tactic(auto, unfolding(box_step::specs::Takes::made, rules::specs::Steps::recovering))]
 fn recovering(x: Record, shares: [Option<Pair>; 10]) -> Step
     requires { Ranges x.setup }
     ensures { result ≡ made (recovering x shares) }
 {
     let u = x.setup;
-    if record_reading::count_shares(shares) == u.k {
-        let group = session_numbers::group_of(u);
-        let found = record_points::recovered_from(group.q, u.k as usize, shares);
-        let recovered = Some(found);
-        let after = record_writing::with_shares(x, shares, recovered);
-        return Step {
-            after,
-            sent: Sent::Nothing,
-            bytes: 0,
-            completed: false,
-            recovered,
-        };
+    if record_reading::count_shares(shares) != u.k {
+        return box_step::quiet(record_writing::with_shares(x, shares, x.recovered));
     }
-    let recovered = x.recovered;
-    box_step::quiet(record_writing::with_shares(x, shares, recovered))
+    let group = session_numbers::group_of(u);
+    let recovered = Some(record_points::recovered_from(group.q, u.k as usize, shares));
+    Step {
+        recovered,
+        ..box_step::quiet(record_writing::with_shares(x, shares, recovered))
+    }
 }
 
 // A checked recovery share of sender m + 1.
@@ -124,9 +106,8 @@ fn take_share(x: Record, m: usize, pair: Pair) -> Step
     requires { Sender x m }
     ensures { result ≡ made (share_step (heard x 4 m) m pair) }
 {
-    let share = Some(pair);
     let mut shares = x.shares;
-    shares[m] = share;
+    shares[m] = Some(pair);
     recovering(record_writing::heard_for(x, 4, m), shares)
 }
 
@@ -135,26 +116,17 @@ pub fn take(out: &mut [u8], x: Record, sender: u32, bytes: &[u8]) -> Step
     requires { Passed x sender bytes.now × (2048 ≤ length out.old) }
     ensures { Takes (message_step x (sender - 1) (message_in x.setup bytes.now)) out.old result out.new }
 {
-    let u = x.setup;
-    let m = (sender - 1) as usize;
-    let tag = bytes[0];
-    if tag == 4 {
-        let pair = message_reading::read_pair(bytes);
-        return take_share(x, m, pair);
+    let m = sender as usize - 1;
+    match message_reading::read(bytes, x.setup) {
+        Message::Send(c, all) => take_send(out, x, m, c, all),
+        Message::Echo(c, four) => take_point(out, x, Side::ByEcho, m, c, four),
+        Message::Ready(c, four) => take_point(out, x, Side::ByReady, m, c, four),
+        Message::Recovery(pair) => take_share(x, m, pair),
     }
-    let c = message_reading::read_matrix(bytes, u);
-    if tag == 1 {
-        let all = message_reading::read_polynomials(bytes, u);
-        return take_send(out, x, m, c, all);
-    }
-    let four = message_reading::read_four(bytes, u);
-    if tag == 2 {
-        return take_point(out, x, Side::ByEcho, m, c, four);
-    }
-    take_point(out, x, Side::ByReady, m, c, four)
 }
 
 // The record after a refusal at the hearing: a message with a matrix marks its sender heard, a recovery share nobody.
+#[tactic(auto, unfolding(rules::specs::Answers::refusal_heard, rules::specs::Messages::has_matrix))]
 pub fn refused_at_hearing(x: Record, sender: u32, bytes: &[u8]) -> Record
     requires { Hearing x sender bytes.now }
     ensures { result ≡ refusal_heard (has_matrix (tag_in bytes.now)) x sender bytes.now }
@@ -163,7 +135,7 @@ pub fn refused_at_hearing(x: Record, sender: u32, bytes: &[u8]) -> Record
     if tag == 4 {
         return x;
     }
-    record_writing::heard_for(x, tag as usize, (sender - 1) as usize)
+    record_writing::heard_for(x, usize::from(tag), sender as usize - 1)
 }
 
 // ---- commands
@@ -184,24 +156,23 @@ pub fn take_deal(out: &mut [u8], x: Record, secret: u32, coins: &[u16]) -> Step
     box_step::sending(record_writing::dealt(x), Sent::Send, bytes)
 }
 
+// The pair of the completed slot.
+fn completed_share(x: Record) -> Option<Pair>
+    requires { sound x ≡ true }
+    ensures { result ≡ completed_share x x.progress.completion }
+{
+    x.slots[x.progress.completion?].pair
+}
+
 // The completed share to each box: how many bytes.
+#[tactic(auto, unfolding(rules::specs::Messages::written))]
 fn write_own_share(out: &mut [u8], x: Record) -> usize
     requires { RecoverPassed x (length out.old) }
     ensures { Writes (share_bytes x.setup (completed_share x x.progress.completion)) out.old out.new result }
 {
-    let u = x.setup;
-    let progress = x.progress;
-    let completion = progress.completion;
-    match completion {
+    match completed_share(x) {
+        Some(pair) => message_writing::write_shares(out, x.setup, pair),
         None => 0,
-        Some(s) => {
-            let slot = x.slots[s];
-            let keep = slot.pair;
-            match keep {
-                None => 0,
-                Some(pair) => message_writing::write_shares(out, u, pair),
-            }
-        }
     }
 }
 

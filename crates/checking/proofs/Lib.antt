@@ -1,3 +1,3 @@
 -- What the proofs of several functions use.
-mod Lines
+pub mod Lines
 pub mod Weights

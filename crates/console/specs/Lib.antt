@@ -1,2 +1,2 @@
--- What the functions of the console ask and promise of the page.
+-- What the functions of the console ask of a line.
 pub mod Room

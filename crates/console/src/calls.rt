@@ -1,12 +1,17 @@
 // The call that a line makes, and what is written for it on the page.
 ghost use Rattle.std.specs.Prelude.{◌≡◌, ◌≤◌, length};
-ghost use Rattle.console.specs.Room.{Room, Ready, Taking};
+ghost use Rattle.arrayvec.specs.ArrayVec.{array_vec_len};
+ghost use Rattle.console.specs.Room.{Ready, Taking};
 
+use arrayvec::ArrayVec;
 use console_lines::lines::Line;
 use console_lines::reasons::Reason;
 use console_lines::said::Said;
 use console_lines::{reasons, said};
 use rules::{Outcome, Record, SetUp};
+
+// What the longest answer needs.
+pub const ROOM: usize = 16_384;
 
 // The box's record, and how many bytes it is lent.
 #[derive(Clone, Copy)]
@@ -15,11 +20,10 @@ pub struct Bench {
     pub lent: usize,
 }
 
-// What a line comes to: the bench from now on, so many bytes on the page, and whether the program ends.
+// What a line comes to: the bench from now on, and whether the program ends.
 #[derive(Clone, Copy)]
 pub struct Turn {
     pub bench: Bench,
-    pub wrote: usize,
     pub ends: bool,
 }
 
@@ -34,96 +38,78 @@ pub fn new_bench() -> Bench {
         d: 0,
         session: 0,
     };
-    let o = box_calls::set_up(nobody);
-    let x = o.next;
-    Bench { x, lent: 2048 }
+    Bench {
+        x: box_calls::set_up(nobody).next,
+        lent: 2048,
+    }
 }
 
 // A bad line; the program ends where the input does.
-fn bad(bench: Bench, reason: Reason, ends: bool, page: &mut [u8]) -> Turn
-    requires { length page.old ≡ 16384 }
-    ensures { Room result.wrote page.new }
+fn bad(reason: Reason, page: &mut ArrayVec<u8, ROOM>)
+    requires { array_vec_len page.old ≡ 0 }
 {
-    let wrote = reasons::put(page, 0, reason);
-    Turn { bench, wrote, ends }
+    let mut space = [0u8; ROOM];
+    let wrote = reasons::put(&mut space, 0, reason);
+    text::page::put_word(page, &space[..wrote]);
 }
 
 // The answer and the messages of a call; what it leaves is the bench's from now on. No more than 4,096 bytes are ever lent.
-fn told(lent: usize, o: Outcome, out: &[u8], page: &mut [u8]) -> Turn
-    requires { length page.old ≡ 16384 }
-    ensures { Room result.wrote page.new }
+fn told(lent: usize, o: Outcome, out: &[u8], page: &mut ArrayVec<u8, ROOM>) -> Turn
+    requires { array_vec_len page.old ≡ 0 }
 {
-    let answer = o.answer;
-    let x = o.next;
-    let u = x.setup;
-    let bench = Bench { x, lent };
+    let bench = Bench { x: o.next, lent };
     if 4096 < out.len() {
-        return Turn {
-            bench,
-            wrote: 0,
-            ends: true,
-        };
+        return Turn { bench, ends: true };
     }
-    let wrote = console_page::answers::put_call(page, 0, u.n as usize, answer, out);
-    Turn {
-        bench,
-        wrote,
-        ends: false,
-    }
+    console_page::answers::put_call(page, bench.x.setup.n as usize, o.answer, out);
+    Turn { bench, ends: false }
 }
 
-fn deal(bench: Bench, secret: u32, coins: &[u16], out: &mut [u8], page: &mut [u8]) -> Turn
-    requires { length page.old ≡ 16384 }
-    ensures { Room result.wrote page.new }
+fn deal(bench: Bench, secret: u32, coins: &[u16], out: &mut [u8], page: &mut ArrayVec<u8, ROOM>) -> Turn
+    requires { array_vec_len page.old ≡ 0 }
 {
     let o = box_calls::deal(bench.x, secret, coins, out);
     told(bench.lent, o, out, page)
 }
 
-fn deliver(bench: Bench, sender: u32, bytes: &[u8], out: &mut [u8], page: &mut [u8]) -> Turn
-    requires { length page.old ≡ 16384 }
-    ensures { Room result.wrote page.new }
+fn deliver(bench: Bench, sender: u32, bytes: &[u8], out: &mut [u8], page: &mut ArrayVec<u8, ROOM>) -> Turn
+    requires { array_vec_len page.old ≡ 0 }
 {
     let o = box_calls::deliver(bench.x, sender, bytes, out);
     told(bench.lent, o, out, page)
 }
 
-fn recover(bench: Bench, out: &mut [u8], page: &mut [u8]) -> Turn
-    requires { length page.old ≡ 16384 }
-    ensures { Room result.wrote page.new }
+fn recover(bench: Bench, out: &mut [u8], page: &mut ArrayVec<u8, ROOM>) -> Turn
+    requires { array_vec_len page.old ≡ 0 }
 {
     let o = box_calls::command_recovery(bench.x, out);
     told(bench.lent, o, out, page)
 }
 
-fn lend(bench: Bench, lent: usize, page: &mut [u8]) -> Turn
-    requires { length page.old ≡ 16384 }
-    ensures { Room result.wrote page.new }
+fn lend(x: Record, lent: usize, page: &mut ArrayVec<u8, ROOM>) -> Turn
+    requires { array_vec_len page.old ≡ 0 }
 {
-    let wrote = console_page::answers::put_lent(page, 0, lent);
-    let x = bench.x;
-    let bench = Bench { x, lent };
+    console_page::answers::put_lent(page, lent);
     Turn {
-        bench,
-        wrote,
+        bench: Bench { x, lent },
         ends: false,
     }
 }
 
-// What changes no box: the lines that a word asks for, and none for a comment or an empty line.
-fn lines(x: Record, said: Said, bytes: &[u8], page: &mut [u8]) -> usize
-    requires { Ready said bytes.now page.old }
-    ensures { Room result page.new }
+// What changes no box: the lines that a word asks for, and none for a comment or an empty line. `console_shows` writes into a
+// slice from a place on, so what it wrote is copied.
+fn lines(x: Record, said: Said, bytes: &[u8], page: &mut ArrayVec<u8, ROOM>)
+    requires { Ready said bytes.now × (array_vec_len page.old ≡ 0) }
 {
-    match said {
-        Said::Show => console_shows::show::put_show(page, 0, x),
-        Said::Points(place) => console_shows::points::put_points(page, 0, x, place),
-        Said::Read(n) => console_page::reading::put_read(page, 0, &bytes[0..n]),
-        Said::Help => console_shows::help::put_help(page, 0),
-        Said::HelpOf(n) => console_shows::help::put_answer(page, 0, n as u32),
-        Said::Bad(reason) => reasons::put(page, 0, reason),
+    let mut space = [0u8; ROOM];
+    let wrote = match said {
+        Said::Show => console_shows::show::put_show(&mut space, 0, x),
+        Said::Points(place) => console_shows::points::put_points(&mut space, 0, x, place),
+        Said::Help => console_shows::help::put_help(&mut space, 0),
+        Said::HelpOf(n) => console_shows::help::put_answer(&mut space, 0, n as u32),
         _ => 0,
-    }
+    };
+    text::page::put_word(page, &space[..wrote]);
 }
 
 // With the coins and the bytes that the line says, and the buffer that is lent.
@@ -133,10 +119,9 @@ fn call(
     coins: &[u16],
     bytes: &[u8],
     out: &mut [u8],
-    page: &mut [u8],
+    page: &mut ArrayVec<u8, ROOM>,
 ) -> Turn
-    requires { (length coins.now ≡ 4096) × Ready said bytes.now page.old }
-    ensures { Room result.wrote page.new }
+    requires { (length coins.now ≡ 4096) × Ready said bytes.now × (array_vec_len page.old ≡ 0) }
 {
     match said {
         Said::SetUp(u) => return told(bench.lent, box_calls::set_up(u), b"", page),
@@ -149,36 +134,22 @@ fn call(
             page,
         ),
         Said::Recover => return recover(bench, out, page),
-        Said::Lend(lent) => return lend(bench, lent, page),
-        Said::Quit => {
-            return Turn {
-                bench,
-                wrote: 0,
-                ends: true,
-            };
-        }
-        _ => {}
+        Said::Lend(lent) => return lend(bench.x, lent, page),
+        Said::Quit => return Turn { bench, ends: true },
+        Said::Read(n) => console_page::reading::put_read(page, &bytes[0..n]),
+        Said::Bad(reason) => bad(reason, page),
+        _ => lines(bench.x, said, bytes, page),
     }
-    let wrote = lines(bench.x, said, bytes, page);
-    Turn {
-        bench,
-        wrote,
-        ends: false,
-    }
+    Turn { bench, ends: false }
 }
 
 // The buffers have room for 4,096 coins, 4,096 bytes of a message, and 4,096 bytes that are lent.
-fn answer(bench: Bench, line: &[u8], page: &mut [u8]) -> Turn
-    requires { (length line.now ≤ 8192) × (length page.old ≡ 16384) }
-    ensures { Room result.wrote page.new }
+fn answer(bench: Bench, line: &[u8], page: &mut ArrayVec<u8, ROOM>) -> Turn
+    requires { (length line.now ≤ 8192) × (array_vec_len page.old ≡ 0) }
 {
     let lent = bench.lent;
     if 4096 < lent {
-        return Turn {
-            bench,
-            wrote: 0,
-            ends: true,
-        };
+        return Turn { bench, ends: true };
     }
     let mut coins = [0u16; 4096];
     let mut bytes = [0u8; 4096];
@@ -189,18 +160,18 @@ fn answer(bench: Bench, line: &[u8], page: &mut [u8]) -> Turn
 }
 
 // What the next line comes to; the program ends with its input.
-pub fn take(bench: Bench, line: Line, space: &[u8], page: &mut [u8]) -> Turn
-    requires { Taking line space.now page.old }
-    ensures { Room result.wrote page.new }
+pub fn take(bench: Bench, line: Line, space: &[u8], page: &mut ArrayVec<u8, ROOM>) -> Turn
+    requires { Taking line space.now }
 {
+    page.clear();
     match line {
-        Line::Whole { from, to } => answer(bench, &space[from..to], page),
-        Line::TooLong => bad(bench, Reason::TooLong, false, page),
-        Line::Cut => bad(bench, Reason::CutOff, true, page),
-        Line::End => Turn {
-            bench,
-            wrote: 0,
-            ends: true,
-        },
+        Line::Whole { from, to } => return answer(bench, &space[from..to], page),
+        Line::TooLong => bad(Reason::TooLong, page),
+        Line::Cut => {
+            bad(Reason::CutOff, page);
+            return Turn { bench, ends: true };
+        }
+        Line::End => return Turn { bench, ends: true },
     }
+    Turn { bench, ends: false }
 }

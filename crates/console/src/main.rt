@@ -3,6 +3,7 @@
 
 mod calls;
 
+use arrayvec::ArrayVec;
 use console_lines::lines;
 use console_lines::lines::Held;
 
@@ -19,7 +20,7 @@ fn written(page: &[u8]) -> bool {
 fn main(rt: HostRuntime) {
     let input = rt.stdin();
     let mut space = [0u8; 8192];
-    let mut page = [0u8; 16384];
+    let mut page: ArrayVec<u8, { calls::ROOM }> = ArrayVec::new();
     let mut bench = calls::new_bench();
     let mut held = Held { from: 0, to: 0 };
     let mut turns = u64::MAX;
@@ -27,14 +28,9 @@ fn main(rt: HostRuntime) {
         turns -= 1;
         let next = lines::next_line(input, &mut space, held);
         held = next.held;
-        let line = next.line;
-        let turn = calls::take(bench, line, &space, &mut page);
+        let turn = calls::take(bench, next.line, &space, &mut page);
         bench = turn.bench;
-        let n = turn.wrote;
-        if !written(&page[0..n]) {
-            return;
-        }
-        if turn.ends {
+        if !written(page.as_slice()) || turn.ends {
             return;
         }
     }

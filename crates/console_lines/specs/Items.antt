@@ -2,12 +2,13 @@
 --
 -- In order: where an item ends and starts, how many stand behind the word; their laws.
 -- Assumes nothing.
-use Rattle.std.specs.Prelude.{Bool, true, false, List, ◌≡◌, eqb, length, get_or}
+use Rattle.std.specs.Prelude.{Bool, true, false, List, ◌≡◌, eqb, ltb, length, get_or, Option, Some, None}
 use Rattle.std.proofs.Math.Path.{refl}
-use Rattle.std.proofs.Common.{ap, add-one}
-use Prim.Native.Nat.{ℕ, zero, suc, ◌+◌, ◌-◌, ◌≤◌}
+use Rattle.std.proofs.Common.{sym, ap, ◌∙◌, add-one}
+use Prim.Native.Nat.{ℕ, zero, suc, ◌+◌, ◌-◌, ◌<◌, ◌≤◌}
 use native.Mathlib.Omega.{arith}
-use Rattle.folds.specs.Tests.{pick}
+use borrow.Author.Tests.{lt-ltb, le-ltb}
+use Rattle.folds.specs.Tests.{pick, pick_true, pick-false}
 use Rattle.folds.specs.Below.{first_from, first_from_le, count_below, count_below_le}
 use Rattle.folds.specs.Loops.{NotYet}
 use Rattle.rules.specs.Text.{space}
@@ -27,6 +28,10 @@ item_place b (suc j) = item_end b (item_place b j) + 1
 -- how many items stand behind the word
 unfoldable pub items : List ℕ → ℕ
 items b = count_below (length b) (is_space b)
+
+-- a place, where it is one of the first n
+abbrev pub place_in : ℕ → ℕ → Option ℕ
+place_in n i = pick (ltb i n) (Some i) None
 
 -- ---- the laws
 
@@ -65,6 +70,27 @@ module _ (b : List ℕ) where
   pub items_most : items b ≤ length b
   unfolding items
   items_most = count_below_le (is_space b) (length b)
+
+-- the place is there; it is the end
+pub place_here : {n i j : ℕ} → i < n → i ≡ j → Some i ≡ place_in n j
+place_here {n} {i} {j} h e = ap Some e ∙ sym (pick_true (ltb j n) (Some j) None (lt-ltb j n (omega arith)))
+
+pub place_none : {n j : ℕ} → n ≡ j → None ≡ place_in n j
+place_none {n} {j} e = sym (pick-false (ltb j n) (Some j) None (le-ltb j n (omega arith)))
+
+pub place_at : (n j : ℕ) {i : ℕ} → Some i ≡ place_in n j → (ltb j n ≡ true) × (j ≡ i)
+place_at n j {i} = go (ltb j n)
+  where
+    go : (t : Bool) → Some i ≡ pick t (Some j) None → (t ≡ true) × (j ≡ i)
+    go true e = (refl, cc)
+    go false e = cc
+
+pub place_out : (n j : ℕ) → None ≡ place_in n j → ltb j n ≡ false
+place_out n j = go (ltb j n)
+  where
+    go : (t : Bool) → None ≡ pick t (Some j) None → t ≡ false
+    go true e = cc
+    go false e = refl
 
 -- a loop that looks for the first index starts
 pub not_yet_start : (p : ℕ → Bool) (n : ℕ) → NotYet p n 0

@@ -2,13 +2,12 @@
 --
 -- In order: bytes; spaces; the word and its items; a line.
 -- Assumes nothing.
-use Rattle.std.specs.Prelude.{Bool, List, ℕ, ◌+◌, ◌-◌, eqb, ltb, length, get_or}
+use Rattle.std.specs.Prelude.{Bool, List, ℕ, ◌+◌, ◌-◌, eqb, ltb, length, get_or, Option, Some, None, Result, Ok, Err}
 use Rattle.folds.specs.Tests.{◌and◌, ◌or◌, pick}
 use Rattle.folds.specs.Below.{first_from}
 use Rattle.console_lines.specs.Items.{is_space, items}
 use Rattle.console_lines.specs.Words.{word_of, form_of, bad_item}
-use Rattle.console_lines.specs.declared.judging.Judged.{Judged}
-use Rattle.console_lines.specs.declared.judging.Judged.TheVariants.{Quiet, Bad, Takes}
+use Rattle.console_lines.specs.declared.reasons.Reason.{Reason}
 use Rattle.console_lines.specs.declared.reasons.Reason.TheVariants.{Byte, Space, NoSuchWord, Items, Item}
 use Rattle.console_lines.specs.declared.words.Word.{Word}
 
@@ -26,22 +25,26 @@ is_stray b i = is_space b i and (eqb i 0 or eqb (i + 1) (length b) or is_space b
 unfoldable pub bad_space : List ℕ → ℕ
 bad_space b = first_from (length b) 0 (is_stray b)
 
--- "no such word", "items", "item J"
-unfoldable pub judged_word : List ℕ → Word → Judged
+-- "items", "item J"
+unfoldable pub judged_word : List ℕ → Word → Result (Option Word) Reason
 judged_word b w =
-    pick (ltb (form_of w).most (form_of w).least) (Bad NoSuchWord)
-    (pick (ltb (items b) (form_of w).least) (Bad Items)
-    (pick (ltb (form_of w).most (items b)) (Bad Items)
-    (pick (ltb (bad_item b (form_of w) (items b)) (items b)) (Bad (Item (bad_item b (form_of w) (items b) + 1)))
-    (Takes w))))
+    pick (ltb (items b) (form_of w).least) (Err Items)
+    (pick (ltb (form_of w).most (items b)) (Err Items)
+    (pick (ltb (bad_item b (form_of w) (items b)) (items b)) (Err (Item (bad_item b (form_of w) (items b) + 1)))
+    (Ok (Some w))))
+
+-- "no such word"
+abbrev pub judged_begin : List ℕ → Option Word → Result (Option Word) Reason
+judged_begin b None = Err NoSuchWord
+judged_begin b (Some w) = judged_word b w
 
 -- "an empty line and one that begins with #"
 abbrev pub is_quiet : List ℕ → Bool
 is_quiet b = eqb (length b) 0 or eqb (get_or b 0 0) 35
 
-unfoldable pub judged : List ℕ → Judged
+unfoldable pub judged : List ℕ → Result (Option Word) Reason
 judged b =
-    pick (is_quiet b) Quiet
-    (pick (ltb (bad_byte b) (length b)) (Bad (Byte (get_or b (bad_byte b) 0) (bad_byte b + 1)))
-    (pick (ltb (bad_space b) (length b)) (Bad (Space (bad_space b + 1)))
-    (judged_word b (word_of b))))
+    pick (is_quiet b) (Ok None)
+    (pick (ltb (bad_byte b) (length b)) (Err (Byte (get_or b (bad_byte b) 0) (bad_byte b + 1)))
+    (pick (ltb (bad_space b) (length b)) (Err (Space (bad_space b + 1)))
+    (judged_begin b (word_of b))))

@@ -2,7 +2,7 @@
 --
 -- In order: a line that is judged to be taken; numbers and bytes that fit; the room for coins; what every line says fits.
 -- Assumes nothing.
-use Rattle.std.specs.Prelude.{Bool, List, ◌≡◌, ltb, length, get_or}
+use Rattle.std.specs.Prelude.{Bool, List, ◌≡◌, ltb, length, get_or, Option, Some, None, Result, Ok, Err}
 use Rattle.std.proofs.Math.Bool.{true, false, not}
 use Rattle.std.proofs.Math.Path.{refl, sym, ap, subst}
 use Rattle.std.proofs.Common.{◌∙◌, add-one}
@@ -11,17 +11,15 @@ use Rattle.std.proofs.Math.Nat.{mul-div-le}
 use native.Mathlib.Omega.{arith}
 use Rattle.std.proofs.Math.Dec.{eqb, leb}
 use borrow.Author.Tests.{ltb-false, leb-true, eqb-true, eqb-false, lt-ltb, not-false}
-use Rattle.folds.specs.Tests.{◌and◌, pick, and_left, and_right}
+use Rattle.folds.specs.Tests.{◌and◌, pick, pick_true, and_left, and_right}
 use Rattle.folds.specs.Below.{all_below-zero, first_from_before}
 use Rattle.rules.specs.Text.{byte_at, digits_end, decimal_at, is_decimal}
-use Rattle.text.specs.Decimals.{decimal_tests, decimal_number, digits_end_within}
+use Rattle.text.specs.Decimals.{decimal_tests, digits_end_within}
 use Rattle.text.specs.Hexadecimal.{hex_at, hex_stands}
 use Rattle.console_lines.specs.Items.{item_end, item_place, items, item_end_most}
 use Rattle.console_lines.specs.Words.{word_of, form_of, number_keeps, item_width, bytes_keep, item_keeps, bad_item}
-use Rattle.console_lines.specs.Judging.{is_quiet, bad_byte, bad_space, judged_word, judged}
-use Rattle.console_lines.specs.Says.{number_of, byte_count, command_of, says_of, said_coins_of, said_bytes_of, says, said_coins, said_bytes}
-use Rattle.console_lines.specs.declared.judging.Judged.{Judged}
-use Rattle.console_lines.specs.declared.judging.Judged.TheVariants.{Quiet, Bad, Takes}
+use Rattle.console_lines.specs.Judging.{is_quiet, bad_byte, bad_space, judged_word, judged_begin, judged}
+use Rattle.console_lines.specs.Says.{number_at, number_of, byte_count, command_of, says_of, said_coins_of, said_bytes_of, says, said_coins, said_bytes}
 use Rattle.console_lines.specs.declared.reasons.Reason.{Reason}
 use Rattle.console_lines.specs.declared.reasons.Reason.TheVariants as reason
 use Rattle.console_lines.specs.declared.said.Said.{Said}
@@ -32,21 +30,24 @@ use Rattle.console_lines.specs.Reading.{Formed, Answers, Fits, Speaks}
 
 -- ---- a line that is judged to be taken
 
-never : {r : Reason} {w : Word} → Bad r ≡ Takes w → ⊥
+abbrev Verdict : Type 0
+Verdict = Result (Option Word) Reason
+
+never : {r : Reason} {w : Word} → ◌≡◌ {A = Verdict} (Err r) (Ok (Some w)) → ⊥
 never e = let z : ◌≡◌ {A = ℕ} 0 1 = cc in omega arith
 
-takes_same : {v w : Word} → Takes v ≡ Takes w → v ≡ w
+takes_same : {v w : Word} → ◌≡◌ {A = Verdict} (Ok (Some v)) (Ok (Some w)) → v ≡ w
 takes_same e = cc
 
-silent : {w : Word} → Quiet ≡ Takes w → ⊥
+silent : {w : Word} → ◌≡◌ {A = Verdict} (Ok None) (Ok (Some w)) → ⊥
 silent e = let z : ◌≡◌ {A = ℕ} 0 1 = cc in omega arith
 
 -- the reason does not hold, and what is behind it judges
-unless : {w : Word} (t : Bool) (r : Reason) (rest : Judged) → pick t (Bad r) rest ≡ Takes w → (t ≡ false) × (rest ≡ Takes w)
+unless : {w : Word} (t : Bool) (r : Reason) (rest : Verdict) → pick t (Err r) rest ≡ Ok (Some w) → (t ≡ false) × (rest ≡ Ok (Some w))
 unless true r rest e = absurd (never e)
 unless false r rest e = (refl, e)
 
-heard : {w : Word} (t : Bool) (rest : Judged) → pick t Quiet rest ≡ Takes w → rest ≡ Takes w
+heard : {w : Word} (t : Bool) (rest : Verdict) → pick t (Ok None) rest ≡ Ok (Some w) → rest ≡ Ok (Some w)
 heard true rest e = absurd (silent e)
 heard false rest e = e
 
@@ -57,35 +58,37 @@ module _ (b : List ℕ) where
   all_keep w h j l =
       not-false _ (first_from_before (λ (k : ℕ). not (item_keeps b (form_of w) k (item_place b (k + 1)))) (items b) 0 j (omega arith) (omega arith))
 
-  word_formed : (v w : Word) → judged_word b v ≡ Takes w → Formed b w
+  word_formed : (v w : Word) → judged_word b v ≡ Ok (Some w) → Formed b w
   unfolding judged_word
   word_formed v w e =
       let f = form_of v in
       let m = items b in
       let j = bad_item b f m in
-      let fourth = pick (ltb j m) (Bad (reason.Item (j + 1))) (Takes v) in
-      let third = pick (ltb f.most m) (Bad reason.Items) fourth in
-      let second = pick (ltb m f.least) (Bad reason.Items) third in
-      let h₁ = unless (ltb f.most f.least) reason.NoSuchWord second e in
-      let h₂ = unless (ltb m f.least) reason.Items third h₁.1 in
-      let h₃ = unless (ltb f.most m) reason.Items fourth h₂.1 in
-      let h₄ = unless (ltb j m) (reason.Item (j + 1)) (Takes v) h₃.1 in
-      subst (Formed b) {x = v} (takes_same h₄.1)
+      let third = pick (ltb j m) (Err (reason.Item (j + 1))) (Ok (Some v)) in
+      let second = pick (ltb f.most m) (Err reason.Items) third in
+      let h₁ = unless (ltb m f.least) reason.Items second e in
+      let h₂ = unless (ltb f.most m) reason.Items third h₁.1 in
+      let h₃ = unless (ltb j m) (reason.Item (j + 1)) (Ok (Some v)) h₂.1 in
+      subst (Formed b) {x = v} (takes_same h₃.1)
       (record {
-        enough = ltb-false m f.least h₂.0;
-        few = ltb-false f.most m h₃.0;
-        keep = all_keep v (ltb-false j m h₄.0);
+        enough = ltb-false m f.least h₁.0;
+        few = ltb-false f.most m h₂.0;
+        keep = all_keep v (ltb-false j m h₃.0);
       })
 
-  pub judged_formed : (w : Word) → judged b ≡ Takes w → Formed b w
+  begun : (o : Option Word) (w : Word) → judged_begin b o ≡ Ok (Some w) → Formed b w
+  begun None w e = absurd (never e)
+  begun (Some v) w e = word_formed v w e
+
+  pub judged_formed : (w : Word) → judged b ≡ Ok (Some w) → Formed b w
   unfolding judged
   judged_formed w e =
-      let third = judged_word b (word_of b) in
-      let second = pick (ltb (bad_space b) (length b)) (Bad (reason.Space (bad_space b + 1))) third in
+      let third = judged_begin b (word_of b) in
+      let second = pick (ltb (bad_space b) (length b)) (Err (reason.Space (bad_space b + 1))) third in
       let byte = reason.Byte (get_or b (bad_byte b) 0) (bad_byte b + 1) in
-      let first = pick (ltb (bad_byte b) (length b)) (Bad byte) second in
+      let first = pick (ltb (bad_byte b) (length b)) (Err byte) second in
       let h₁ = unless (ltb (bad_byte b) (length b)) byte second (heard (is_quiet b) first e) in
-      word_formed (word_of b) w (unless (ltb (bad_space b) (length b)) (reason.Space (bad_space b + 1)) third h₁.1).1
+      begun (word_of b) w (unless (ltb (bad_space b) (length b)) (reason.Space (bad_space b + 1)) third h₁.1).1
 
 -- ---- numbers and bytes that fit
 
@@ -124,12 +127,12 @@ read_keeps b h = let z = h.enough in h.keep 0 (omega arith)
 
 module _ (b : List ℕ) (j limit : ℕ) where
   number_most : number_keeps b (item_place b j) limit ≡ true → number_of b j ≤ limit
-  unfolding number_keeps number_of
+  unfolding number_keeps number_of number_at
   number_most h =
       let i = item_place b j in
       let ends = eqb (digits_end b i) (item_end b i) in
       let small = leb (decimal_at b i) limit in
-      let e = decimal_number b i refl (and_left (is_decimal b i) (ends and small) h) in
+      let e = pick_true (is_decimal b i) (decimal_at b i) 0 (and_left (is_decimal b i) (ends and small) h) in
       omega (arith, e, leb-true (decimal_at b i) limit (and_right ends small (and_right (is_decimal b i) (ends and small) h)))
 
 -- ---- the room for coins: each number takes a byte and the space before it
@@ -177,19 +180,18 @@ module _ (b : List ℕ) (short : length b ≤ 8192) where
   command_fits word.Read h = bytes_few b (item_place b 1) short
   command_fits word.Points h = let z = h.enough in number_most b 1 19 (h.keep 0 (omega arith))
   command_fits word.Quit h = tt
-  command_fits word.Unknown h = tt
 
   pub says_fits : Fits (says b)
   unfolding says
   says_fits = go (judged b) refl
     where
-      go : (v : Judged) → judged b ≡ v → Fits (says_of b v)
-      go Quiet e = tt
-      go (Bad r) e = tt
-      go (Takes w) e = command_fits w (judged_formed b w e)
+      go : (v : Verdict) → judged b ≡ v → Fits (says_of b v)
+      go (Ok None) e = tt
+      go (Err r) e = tt
+      go (Ok (Some w)) e = command_fits w (judged_formed b w e)
 
   -- a line that is judged so says what its judgement says
-  pub spoken : (v : Judged) → judged b ≡ v → {r : Said} {coins₀ coins₁ bytes₀ bytes₁ : List ℕ}
+  pub spoken : (v : Result (Option Word) Reason) → judged b ≡ v → {r : Said} {coins₀ coins₁ bytes₀ bytes₁ : List ℕ}
       → Answers (says_of b v) (said_coins_of b v) (said_bytes_of b v) r coins₀ coins₁ bytes₀ bytes₁ → Speaks b r coins₀ coins₁ bytes₀ bytes₁
   unfolding says said_coins said_bytes
   spoken v e h =

@@ -2,18 +2,16 @@
 --
 -- In order: what an item says; the command of a word, with its coins and bytes; a line.
 -- Assumes nothing.
-use Rattle.std.specs.Prelude.{List, [], ◌∷◌, ℕ, ◌+◌, ◌-◌, ◌/◌, eqb}
+use Rattle.std.specs.Prelude.{List, [], ◌∷◌, ℕ, ◌+◌, ◌-◌, ◌/◌, eqb, Option, Some, None, Result, Ok, Err}
 use Rattle.folds.specs.Tests.{pick}
 use Rattle.folds.specs.Runs.{gather}
 use Rattle.rules.specs.declared.SetUp.{SetUp}
-use Rattle.text.specs.Decimals.{decimal_in}
+use Rattle.rules.specs.Text.{decimal_at, is_decimal}
 use Rattle.text.specs.Hexadecimal.{hex_bytes}
 use Rattle.console_lines.specs.Items.{item_place, items}
 use Rattle.console_lines.specs.Words.{item_width}
 use Rattle.console_lines.specs.Judging.{judged}
-use Rattle.console_lines.specs.declared.judging.Judged.{Judged}
-use Rattle.console_lines.specs.declared.judging.Judged.TheVariants as judging
-use Rattle.console_lines.specs.declared.reasons.Reason.TheVariants as reason
+use Rattle.console_lines.specs.declared.reasons.Reason.{Reason}
 use Rattle.console_lines.specs.declared.said.Said.{Said}
 use Rattle.console_lines.specs.declared.said.Said.TheVariants as said
 use Rattle.console_lines.specs.declared.words.Word.{Word}
@@ -21,9 +19,12 @@ use Rattle.console_lines.specs.declared.words.Word.TheVariants as word
 
 -- ---- what an item says
 
--- the number, and 0 where the item is none
+-- the number that stands at a place, and 0 where none does
+unfoldable pub number_at : List ℕ → ℕ → ℕ
+number_at b i = pick (is_decimal b i) (decimal_at b i) 0
+
 unfoldable pub number_of : List ℕ → ℕ → ℕ
-number_of b j = (decimal_in b (item_place b j)).number
+number_of b j = number_at b (item_place b j)
 
 -- a byte for two digits; `-` is none
 unfoldable pub byte_count : List ℕ → ℕ → ℕ
@@ -57,7 +58,6 @@ command_of b word.Help = pick (eqb (items b) 0) said.Help (said.HelpOf (number_o
 command_of b word.Read = said.Read (byte_count b 1)
 command_of b word.Points = said.Points (number_of b 1)
 command_of b word.Quit = said.Quit
-command_of b word.Unknown = said.Bad reason.NoSuchWord
 
 -- the first m numbers behind the secret
 unfoldable pub coins_in : List ℕ → ℕ → List ℕ
@@ -74,7 +74,6 @@ coins_of b word.Help = []
 coins_of b word.Read = []
 coins_of b word.Points = []
 coins_of b word.Quit = []
-coins_of b word.Unknown = []
 
 abbrev pub bytes_of : List ℕ → Word → List ℕ
 bytes_of b word.SetUp = []
@@ -87,25 +86,24 @@ bytes_of b word.Help = []
 bytes_of b word.Read = bytes_in b 1
 bytes_of b word.Points = []
 bytes_of b word.Quit = []
-bytes_of b word.Unknown = []
 
 -- ---- a line
 
 -- a line that is judged so; the coins and the bytes that it says
-abbrev pub says_of : List ℕ → Judged → Said
-says_of b judging.Quiet = said.Nothing
-says_of b (judging.Bad r) = said.Bad r
-says_of b (judging.Takes w) = command_of b w
+abbrev pub says_of : List ℕ → Result (Option Word) Reason → Said
+says_of b (Ok None) = said.Nothing
+says_of b (Ok (Some w)) = command_of b w
+says_of b (Err r) = said.Bad r
 
-abbrev pub said_coins_of : List ℕ → Judged → List ℕ
-said_coins_of b judging.Quiet = []
-said_coins_of b (judging.Bad r) = []
-said_coins_of b (judging.Takes w) = coins_of b w
+abbrev pub said_coins_of : List ℕ → Result (Option Word) Reason → List ℕ
+said_coins_of b (Ok None) = []
+said_coins_of b (Ok (Some w)) = coins_of b w
+said_coins_of b (Err r) = []
 
-abbrev pub said_bytes_of : List ℕ → Judged → List ℕ
-said_bytes_of b judging.Quiet = []
-said_bytes_of b (judging.Bad r) = []
-said_bytes_of b (judging.Takes w) = bytes_of b w
+abbrev pub said_bytes_of : List ℕ → Result (Option Word) Reason → List ℕ
+said_bytes_of b (Ok None) = []
+said_bytes_of b (Ok (Some w)) = bytes_of b w
+said_bytes_of b (Err r) = []
 
 unfoldable pub says : List ℕ → Said
 says b = says_of b (judged b)

@@ -2,7 +2,7 @@
 --
 -- In order: the words; the form of each word's items; the two forms of an item; the test of item j, and the first that fails.
 -- Assumes nothing.
-use Rattle.std.specs.Prelude.{Bool, not, List, [], ◌∷◌, ℕ, ◌+◌, ◌-◌, ◌/◌, ◌%◌, eqb, leb, ltb, length}
+use Rattle.std.specs.Prelude.{Bool, not, List, [], ◌∷◌, ℕ, ◌+◌, ◌-◌, ◌/◌, ◌%◌, eqb, leb, ltb, length, Option, Some, None}
 use Prim.Native.String.{String}
 use Rattle.folds.specs.Tests.{◌and◌, pick}
 use Rattle.folds.specs.Below.{first_from}
@@ -11,7 +11,7 @@ use Rattle.text.specs.Hexadecimal.{hex_at}
 use Rattle.console_lines.specs.Items.{item_end, item_place}
 use Rattle.console_lines.specs.declared.words.Form.{Form}
 use Rattle.console_lines.specs.declared.words.Word.{Word}
-use Rattle.console_lines.specs.declared.words.Word.TheVariants.{SetUp, Lend, Deal, Deliver, Recover, Show, Help, Read, Points, Quit, Unknown}
+use Rattle.console_lines.specs.declared.words.Word.TheVariants.{SetUp, Lend, Deal, Deliver, Recover, Show, Help, Read, Points, Quit}
 
 -- the line begins with this word
 unfoldable pub word_is : List ℕ → List ℕ → Bool
@@ -39,18 +39,18 @@ names =
     ∷ []
 
 -- the first of these names that the line begins with
-unfoldable pub word_in : List ℕ → List Name → Word
-word_in b [] = Unknown
-word_in b (x ∷ rest) = pick (word_is b x.bytes) x.word (word_in b rest)
+unfoldable pub word_in : List ℕ → List Name → Option Word
+word_in b [] = None
+word_in b (x ∷ rest) = pick (word_is b x.bytes) (Some x.word) (word_in b rest)
 
-abbrev pub word_of : List ℕ → Word
+abbrev pub word_of : List ℕ → Option Word
 word_of b = word_in b names
 
 -- at least and at most so many items; the first so many of them are decimals up to the limit, the others hexadecimal
 abbrev pub form : ℕ → ℕ → ℕ → ℕ → Form
 form least most numbers limit = record { least = least; most = most; numbers = numbers; limit = limit }
 
--- a line has no room for 8,192 items; behind an unknown word no number of items is right
+-- a line has no room for 8,192 items
 abbrev pub form_of : Word → Form
 form_of SetUp = form 7 7 7 65535
 form_of Lend = form 1 1 1 4096
@@ -62,7 +62,6 @@ form_of Help = form 0 1 1 20
 form_of Read = form 1 1 0 0
 form_of Points = form 1 1 1 19
 form_of Quit = form 0 0 0 0
-form_of Unknown = form 1 0 0 0
 
 -- the item that starts at i is a decimal up to the limit
 unfoldable pub number_keeps : List ℕ → ℕ → ℕ → Bool

@@ -3,17 +3,11 @@ ghost use Rattle.std.specs.Prelude.{◌≡◌, ◌≤◌, length};
 ghost use Rattle.console_lines.specs.Items.{item_end, item_place, items};
 
 // Where the item that starts at a place ends.
+#[tactic(auto, unfolding(crate::specs::Items::item_end, text::specs::Finds::byte_from))]
 pub fn item_end(line: &[u8], from: usize) -> usize
     ensures { result ≡ item_end line.now from }
 {
-    let mut i = from;
-    while i < line.len() {
-        if line[i] == b' ' {
-            return i;
-        }
-        i += 1;
-    }
-    i
+    text::read::byte_from(line, from, b' ')
 }
 
 // Where item j starts.
@@ -22,10 +16,8 @@ pub fn item_place(line: &[u8], j: usize) -> usize
     ensures { result ≡ item_place line.now j }
 {
     let mut place: usize = 0;
-    let mut l: usize = 0;
-    while l < j {
+    for _l in 0..j {
         place = item_end(line, place) + 1;
-        l += 1;
     }
     place
 }
@@ -34,13 +26,5 @@ pub fn item_place(line: &[u8], j: usize) -> usize
 pub fn count_items(line: &[u8]) -> usize
     ensures { result ≡ items line.now }
 {
-    let mut spaces: usize = 0;
-    let mut i: usize = 0;
-    while i < line.len() {
-        if line[i] == b' ' {
-            spaces += 1;
-        }
-        i += 1;
-    }
-    spaces
+    line.iter().filter(|x| **x == b' ').count()
 }

@@ -1,5 +1,6 @@
 // Whether a line is taken: the reasons of a bad line, in their order.
 ghost use Rattle.std.specs.Prelude.{◌≡◌, ◌≤◌, ◌<◌, length};
+ghost use Rattle.console_lines.specs.Items.{place_in};
 ghost use Rattle.console_lines.specs.Judging.{
   is_outside,
   bad_byte,
@@ -13,14 +14,6 @@ ghost use Rattle.console_lines.specs.Judging.{
 use crate::reasons::Reason;
 use crate::words::Word;
 
-// A line that says nothing; a bad one; or one that begins with this word, all its items of their forms.
-#[derive(Clone, Copy)]
-pub enum Judged {
-    Quiet,
-    Bad(Reason),
-    Takes(Word),
-}
-
 // ---- bytes and spaces
 
 fn is_outside(x: u8) -> bool
@@ -30,73 +23,44 @@ fn is_outside(x: u8) -> bool
 }
 
 // The first byte outside 32..126.
-fn bad_byte(line: &[u8]) -> usize
-    ensures { result ≡ bad_byte line.now }
+fn bad_byte(line: &[u8]) -> Option<usize>
+    ensures { result ≡ place_in (length line.now) (bad_byte line.now) }
 {
-    let mut i: usize = 0;
-    while i < line.len() {
-        if is_outside(line[i]) {
-            return i;
-        }
-        i += 1;
-    }
-    i
+    line.iter().position(|x| is_outside(*x))
 }
 
 // A space at the start or the end, or behind another one.
+#[tactic(auto, unfolding(crate::specs::Judging::is_stray))]
 fn is_stray(line: &[u8], i: usize) -> bool
     requires { i < length line.now }
     ensures { result ≡ is_stray line.now i }
 {
-    if line[i] != b' ' {
-        return false;
-    }
-    if i == 0 {
-        return true;
-    }
-    if i + 1 == line.len() {
-        return true;
-    }
-    line[i - 1] == b' '
+    line[i] == b' ' && (i == 0 || i + 1 == line.len() || line[i - 1] == b' ')
 }
 
 // The first such space.
-fn bad_space(line: &[u8]) -> usize
-    ensures { result ≡ bad_space line.now }
+fn bad_space(line: &[u8]) -> Option<usize>
+    ensures { result ≡ place_in (length line.now) (bad_space line.now) }
 {
-    let mut i: usize = 0;
-    while i < line.len() {
-        if is_stray(line, i) {
-            return i;
-        }
-        i += 1;
-    }
-    i
+    (0..line.len()).find(|i| is_stray(line, *i))
 }
 
 // ---- the word and its items
 
 #[tactic(auto, unfolding(crate::specs::Judging::judged_word))]
-fn judge_word(line: &[u8], word: Word) -> Judged
+fn judge_word(line: &[u8], word: Word) -> Result<Option<Word>, Reason>
     requires { length line.now ≤ 8192 }
     ensures { result ≡ judged_word line.now word }
 {
     let form = crate::words::form_of(word);
-    if form.most < form.least {
-        return Judged::Bad(Reason::NoSuchWord);
-    }
     let m = crate::items::count_items(line);
-    if m < form.least {
-        return Judged::Bad(Reason::Items);
+    if m < form.least || form.most < m {
+        return Err(Reason::Items);
     }
-    if form.most < m {
-        return Judged::Bad(Reason::Items);
+    match crate::words::bad_item(line, form, m) {
+        Some(j) => Err(Reason::Item((j + 1) as u16)),
+        None => Ok(Some(word)),
     }
-    let j = crate::words::bad_item(line, form, m);
-    if j < m {
-        return Judged::Bad(Reason::Item((j + 1) as u16));
-    }
-    Judged::Takes(word)
 }
 
 // ---- a line
@@ -104,29 +68,26 @@ fn judge_word(line: &[u8], word: Word) -> Judged
 fn is_quiet(line: &[u8]) -> bool
     ensures { result ≡ is_quiet line.now }
 {
-    if line.len() == 0 {
-        return true;
-    }
-    line[0] == b'#'
+    line.len() == 0 || line[0] == b'#'
 }
 
-pub fn judge(line: &[u8]) -> Judged
+// No word for a line that says nothing; else the word that it begins with, all its items of their forms; or why it is bad.
+pub fn judge(line: &[u8]) -> Result<Option<Word>, Reason>
     requires { length line.now ≤ 8192 }
     ensures { result ≡ judged line.now }
 {
     if is_quiet(line) {
-        return Judged::Quiet;
+        return Ok(None);
     }
-    let i = bad_byte(line);
-    if i < line.len() {
-        let value = line[i];
+    if let Some(i) = bad_byte(line) {
         let at = (i + 1) as u16;
-        return Judged::Bad(Reason::Byte { value, at });
+        return Err(Reason::Byte { value: line[i], at });
     }
-    let i = bad_space(line);
-    if i < line.len() {
-        return Judged::Bad(Reason::Space((i + 1) as u16));
+    if let Some(i) = bad_space(line) {
+        return Err(Reason::Space((i + 1) as u16));
     }
-    let word = crate::words::word_of(line);
-    judge_word(line, word)
+    match crate::words::word_of(line) {
+        Some(word) => judge_word(line, word),
+        None => Err(Reason::NoSuchWord),
+    }
 }

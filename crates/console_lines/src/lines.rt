@@ -22,6 +22,8 @@ pub struct Held {
     pub to: usize,
 }
 
+const NOTHING: Held = Held { from: 0, to: 0 };
+
 // A line, without its newline, from one place of the buffer to another; one that is too long, skipped to its end; one that the
 // end of the input cut off; or the end of the input.
 #[derive(Clone, Copy)]
@@ -44,14 +46,7 @@ fn line_end(buf: &[u8], from: usize, to: usize) -> usize
     requires { (from ≤ to) × (to ≤ length buf.now) }
     ensures { result ≡ line_end buf.now from to }
 {
-    let mut i = from;
-    while i < to {
-        if buf[i] == b'\n' {
-            return i;
-        }
-        i += 1;
-    }
-    i
+    text::read::byte_from(&buf[..to], from, b'\n')
 }
 
 // What is held goes to the front; how much it is.
@@ -59,13 +54,8 @@ fn move_front(buf: &mut [u8], from: usize, to: usize) -> usize
     requires { (from ≤ to) × (to ≤ length buf.old) }
     ensures { (result ≡ to - from) × (buf.new ≡ sets buf.old 0 (held_bytes buf.old from to)) }
 {
-    let n = to - from;
-    let mut j: usize = 0;
-    while j < n {
-        buf[j] = buf[from + j];
-        j += 1;
-    }
-    n
+    buf.copy_within(from..to, 0);
+    to - from
 }
 
 // As many bytes as there are, behind the first so many; none at the end of the input.
@@ -76,15 +66,14 @@ fn read_more(mut input: Stdin, buf: &mut [u8], at: usize) -> usize
     input.read(&mut buf[at..]).unwrap_or(0)
 }
 
-// To the end of a line of which the first so many bytes of the buffer are a part. The turns are counted down, from a number that no run
+// To the end of a line of which the first so many bytes of the buffer are a part. The turns are counted, up to a number that no run
 // uses up: a proved loop has to end.
 fn skip_from(input: Stdin, buf: &mut [u8], part: usize) -> Held
     requires { part ≤ length buf.old }
     ensures { (length buf.new ≡ length buf.old) × Within buf.new result.from result.to }
 {
     let mut got = part;
-    let mut left = u64::MAX;
-    while left > 0 {
+    for _ in 0..u64::MAX {
         let end = line_end(buf, 0, got);
         if end < got {
             return Held {
@@ -94,11 +83,10 @@ fn skip_from(input: Stdin, buf: &mut [u8], part: usize) -> Held
         }
         got = read_more(input, buf, 0);
         if got == 0 {
-            return Held { from: 0, to: 0 };
+            break;
         }
-        left -= 1;
     }
-    Held { from: 0, to: 0 }
+    NOTHING
 }
 
 // A line that has filled the buffer is too long, unless the input ends with it.
@@ -107,16 +95,18 @@ fn skip_line(input: Stdin, buf: &mut [u8]) -> Next
 {
     let got = read_more(input, buf, 0);
     if got == 0 {
-        let line = Line::Cut;
-        let held = Held { from: 0, to: 0 };
-        return Next { line, held };
+        return Next {
+            line: Line::Cut,
+            held: NOTHING,
+        };
     }
-    let held = skip_from(input, buf, got);
-    let line = Line::TooLong;
-    Next { line, held }
+    Next {
+        line: Line::TooLong,
+        held: skip_from(input, buf, got),
+    }
 }
 
-// The line that starts at the front, where the first so many bytes of it have come.
+// The line that starts at the front, where the first so many bytes of it have come. A turn goes on by what came, so that none is counted.
 fn fill_line(input: Stdin, buf: &mut [u8], kept: usize) -> Next
     requires { Unended buf.old kept }
     ensures { Filled buf.old kept result.line result.held buf.new }
@@ -126,15 +116,18 @@ fn fill_line(input: Stdin, buf: &mut [u8], kept: usize) -> Next
         let got = read_more(input, buf, have);
         if got == 0 {
             let line = if have == 0 { Line::End } else { Line::Cut };
-            let held = Held { from: 0, to: 0 };
-            return Next { line, held };
+            return Next {
+                line,
+                held: NOTHING,
+            };
         }
         let to = have + got;
         let end = line_end(buf, have, to);
         if end < to {
-            let line = Line::Whole { from: 0, to: end };
-            let held = Held { from: end + 1, to };
-            return Next { line, held };
+            return Next {
+                line: Line::Whole { from: 0, to: end },
+                held: Held { from: end + 1, to },
+            };
         }
         have = to;
     }
@@ -146,13 +139,13 @@ pub fn next_line(input: Stdin, buf: &mut [u8], held: Held) -> Next
     requires { Within buf.old held.from held.to }
     ensures { NextIs buf.old held result.line result.held buf.new }
 {
-    let from = held.from;
-    let to = held.to;
+    let Held { from, to } = held;
     let end = line_end(buf, from, to);
     if end < to {
-        let line = Line::Whole { from, to: end };
-        let held = Held { from: end + 1, to };
-        return Next { line, held };
+        return Next {
+            line: Line::Whole { from, to: end },
+            held: Held { from: end + 1, to },
+        };
     }
     let kept = move_front(buf, from, to);
     fill_line(input, buf, kept)

@@ -1,6 +1,5 @@
 // Why a line is bad, and the line that says so.
-ghost use Rattle.std.specs.Prelude.{◌++◌, ◌+◌, ◌≤◌, length};
-ghost use Rattle.rules.specs.Text.{decimal};
+ghost use Rattle.std.specs.Prelude.{◌+◌, ◌≤◌, length};
 ghost use Rattle.text.specs.Puts.{Puts};
 ghost use Rattle.console_lines.specs.Reasons.{reason_line};
 
@@ -16,15 +15,6 @@ pub enum Reason {
     Item(u16),
 }
 
-// A word and a number behind it.
-fn put_numbered(page: &mut [u8], at: usize, word: &[u8], x: u16) -> usize
-    requires { at + length word.now + 5 ≤ length page.old }
-    ensures { Puts page.old at (word.now ++ decimal x) (length word.now + 5) result page.new }
-{
-    let next = text::write::put_word(page, at, word);
-    text::write::put_decimal(page, next, x as u32)
-}
-
 pub fn put(page: &mut [u8], at: usize, reason: Reason) -> usize
     requires { at + 30 ≤ length page.old }
     ensures { Puts page.old at (reason_line reason) 30 result page.new }
@@ -33,18 +23,18 @@ pub fn put(page: &mut [u8], at: usize, reason: Reason) -> usize
         Reason::TooLong => text::write::put_word(page, at, b"bad line: too long\n"),
         Reason::CutOff => text::write::put_word(page, at, b"bad line: cut off\n"),
         Reason::Byte { value, at: place } => {
-            let next = put_numbered(page, at, b"bad line: byte ", value as u16);
-            let next = put_numbered(page, next, b" at ", place);
+            let next = text::write::put_numbered(page, at, b"bad line: byte ", value as u32);
+            let next = text::write::put_numbered(page, next, b" at ", place as u32);
             text::write::put_word(page, next, b"\n")
         }
         Reason::Space(place) => {
-            let next = put_numbered(page, at, b"bad line: space at ", place);
+            let next = text::write::put_numbered(page, at, b"bad line: space at ", place as u32);
             text::write::put_word(page, next, b"\n")
         }
         Reason::NoSuchWord => text::write::put_word(page, at, b"bad line: no such word\n"),
         Reason::Items => text::write::put_word(page, at, b"bad line: items\n"),
         Reason::Item(j) => {
-            let next = put_numbered(page, at, b"bad line: item ", j);
+            let next = text::write::put_numbered(page, at, b"bad line: item ", j as u32);
             text::write::put_word(page, next, b"\n")
         }
     }

@@ -3,6 +3,7 @@ ghost use Rattle.std.specs.Prelude.{◌≡◌, ◌≤◌, length};
 ghost use Rattle.std.proofs.lemmas.List.Edits.{sets};
 ghost use Rattle.console_lines.specs.declared.words.Word.TheVariants as word;
 ghost use Rattle.console_lines.specs.Says.{
+  number_at,
   number_of,
   set_up_of,
   coins_in,
@@ -14,7 +15,6 @@ ghost use Rattle.console_lines.specs.Says.{
 };
 ghost use Rattle.console_lines.specs.Reading.{Short, HexItem, Dealt, Taken, Lent, Answers, Speaks};
 
-use crate::judging::Judged;
 use crate::reasons::Reason;
 use crate::words::Word;
 use rules::SetUp;
@@ -38,14 +38,24 @@ pub enum Said {
     Bad(Reason),
 }
 
+// The number that stands at a place, and 0 where none does.
+#[tactic(auto, unfolding(crate::specs::Says::number_at))]
+fn number_at(line: &[u8], place: usize) -> u16
+    ensures { result ≡ number_at line.now place }
+{
+    match text::read::decimal_at(line, place) {
+        Some(x) => x.number,
+        None => 0,
+    }
+}
+
 // The number that item j says.
+#[tactic(auto, unfolding(crate::specs::Says::number_of))]
 fn number_of(line: &[u8], j: usize) -> u16
     requires { Short line.now j }
     ensures { result ≡ number_of line.now j }
 {
-    let place = crate::items::item_place(line, j);
-    let x = text::read::decimal_at(line, place);
-    x.number
+    number_at(line, crate::items::item_place(line, j))
 }
 
 // The bytes that item j says, at the front of the space, and how many.
@@ -61,25 +71,19 @@ fn read_bytes(line: &[u8], j: usize, bytes: &mut [u8]) -> usize
 
 // ---- setup G N T K I D S
 
+#[tactic(auto, unfolding(crate::specs::Says::set_up_of))]
 fn set_up(line: &[u8]) -> SetUp
     requires { length line.now ≤ 8192 }
     ensures { result ≡ set_up_of line.now }
 {
-    let group = number_of(line, 1);
-    let n = number_of(line, 2);
-    let t = number_of(line, 3);
-    let k = number_of(line, 4);
-    let i = number_of(line, 5);
-    let d = number_of(line, 6);
-    let session = number_of(line, 7);
     SetUp {
-        group: group as u32,
-        n: n as u32,
-        t: t as u32,
-        k: k as u32,
-        i: i as u32,
-        d: d as u32,
-        session: session as u32,
+        group: u32::from(number_of(line, 1)),
+        n: u32::from(number_of(line, 2)),
+        t: u32::from(number_of(line, 3)),
+        k: u32::from(number_of(line, 4)),
+        i: u32::from(number_of(line, 5)),
+        d: u32::from(number_of(line, 6)),
+        session: u32::from(number_of(line, 7)),
     }
 }
 
@@ -91,12 +95,9 @@ fn read_coins(line: &[u8], m: usize, coins: &mut [u16])
     ensures { coins.new ≡ sets coins.old 0 (coins_in line.now m) }
 {
     let mut place = crate::items::item_place(line, 2);
-    let mut j: usize = 0;
-    while j < m {
-        let x = text::read::decimal_at(line, place);
-        coins[j] = x.number;
+    for j in 0..m {
+        coins[j] = number_at(line, place);
         place = crate::items::item_end(line, place) + 1;
-        j += 1;
     }
 }
 
@@ -104,7 +105,7 @@ fn deal(line: &[u8], coins: &mut [u16]) -> Said
     requires { Dealt line.now coins.old }
     ensures { (result ≡ command_of line.now word.Deal) × (coins.new ≡ sets coins.old 0 (coins_of line.now word.Deal)) }
 {
-    let secret = number_of(line, 1) as u32;
+    let secret = u32::from(number_of(line, 1));
     let m = crate::items::count_items(line) - 1;
     read_coins(line, m, coins);
     Said::Deal { secret, coins: m }
@@ -116,11 +117,11 @@ fn help(line: &[u8]) -> Said
     requires { length line.now ≤ 8192 }
     ensures { result ≡ command_of line.now word.Help }
 {
-    let m = crate::items::count_items(line);
-    if m == 0 {
-        return Said::Help;
+    if crate::items::count_items(line) == 0 {
+        Said::Help
+    } else {
+        Said::HelpOf(usize::from(number_of(line, 1)))
     }
-    Said::HelpOf(number_of(line, 1) as usize)
 }
 
 // ---- a line
@@ -133,10 +134,10 @@ fn command(line: &[u8], word: Word, coins: &mut [u16], bytes: &mut [u8]) -> Said
 {
     match word {
         Word::SetUp => Said::SetUp(set_up(line)),
-        Word::Lend => Said::Lend(number_of(line, 1) as usize),
+        Word::Lend => Said::Lend(usize::from(number_of(line, 1))),
         Word::Deal => deal(line, coins),
         Word::Deliver => {
-            let sender = number_of(line, 1) as u32;
+            let sender = u32::from(number_of(line, 1));
             let n = read_bytes(line, 2, bytes);
             Said::Deliver { sender, bytes: n }
         }
@@ -144,9 +145,8 @@ fn command(line: &[u8], word: Word, coins: &mut [u16], bytes: &mut [u8]) -> Said
         Word::Show => Said::Show,
         Word::Help => help(line),
         Word::Read => Said::Read(read_bytes(line, 1, bytes)),
-        Word::Points => Said::Points(number_of(line, 1) as usize),
+        Word::Points => Said::Points(usize::from(number_of(line, 1))),
         Word::Quit => Said::Quit,
-        Word::Unknown => Said::Bad(Reason::NoSuchWord),
     }
 }
 
@@ -155,10 +155,9 @@ pub fn read(line: &[u8], coins: &mut [u16], bytes: &mut [u8]) -> Said
     requires { Lent line.now coins.old bytes.old }
     ensures { Speaks line.now result coins.old coins.new bytes.old bytes.new }
 {
-    let judged = crate::judging::judge(line);
-    match judged {
-        Judged::Quiet => Said::Nothing,
-        Judged::Bad(reason) => Said::Bad(reason),
-        Judged::Takes(word) => command(line, word, coins, bytes),
+    match crate::judging::judge(line) {
+        Ok(None) => Said::Nothing,
+        Ok(Some(word)) => command(line, word, coins, bytes),
+        Err(reason) => Said::Bad(reason),
     }
 }

@@ -1,6 +1,6 @@
 // The words that a line may begin with, and the form of the items behind each.
 ghost use Rattle.std.specs.Prelude.{◌≡◌, ◌≤◌, length};
-ghost use Rattle.folds.specs.Tests.{pick};
+ghost use Rattle.console_lines.specs.Items.{place_in};
 ghost use Rattle.console_lines.specs.Words.{
   word_is,
   word_of,
@@ -24,8 +24,20 @@ pub enum Word {
     Read,
     Points,
     Quit,
-    Unknown,
 }
+
+const NAMES: [(&[u8], Word); 10] = [
+    (b"setup", Word::SetUp),
+    (b"lend", Word::Lend),
+    (b"deal", Word::Deal),
+    (b"deliver", Word::Deliver),
+    (b"recover", Word::Recover),
+    (b"show", Word::Show),
+    (b"help", Word::Help),
+    (b"read", Word::Read),
+    (b"points", Word::Points),
+    (b"quit", Word::Quit),
+];
 
 // At least and at most so many items; the first so many of them are decimals up to the limit, the others hexadecimal.
 #[derive(Clone, Copy)]
@@ -38,38 +50,19 @@ pub struct Form {
 
 // ---- the word
 
+#[tactic(auto, unfolding(crate::specs::Words::word_is))]
 fn word_is(line: &[u8], word: &[u8]) -> bool
     ensures { result ≡ word_is line.now word.now }
 {
-    if !text::read::word_at(line, 0, word) {
-        return false;
-    }
-    crate::items::item_end(line, 0) == word.len()
+    text::read::word_at(line, 0, word) && crate::items::item_end(line, 0) == word.len()
 }
 
-// This word, where the line begins with its name; else the other.
-fn word_or(line: &[u8], name: &[u8], word: Word, other: Word) -> Word
-    ensures { result ≡ pick (word_is line.now name.now) word other }
-{
-    if word_is(line, name) {
-        return word;
-    }
-    other
-}
-
-pub fn word_of(line: &[u8]) -> Word
+// The first of the names that the line begins with tells the word.
+pub fn word_of(line: &[u8]) -> Option<Word>
     ensures { result ≡ word_of line.now }
 {
-    let word = word_or(line, b"quit", Word::Quit, Word::Unknown);
-    let word = word_or(line, b"points", Word::Points, word);
-    let word = word_or(line, b"read", Word::Read, word);
-    let word = word_or(line, b"help", Word::Help, word);
-    let word = word_or(line, b"show", Word::Show, word);
-    let word = word_or(line, b"recover", Word::Recover, word);
-    let word = word_or(line, b"deliver", Word::Deliver, word);
-    let word = word_or(line, b"deal", Word::Deal, word);
-    let word = word_or(line, b"lend", Word::Lend, word);
-    word_or(line, b"setup", Word::SetUp, word)
+    let x = NAMES.iter().find(|x| word_is(line, x.0))?;
+    Some(x.1)
 }
 
 fn new_form(least: usize, most: usize, numbers: usize, limit: u16) -> Form
@@ -83,7 +76,7 @@ fn new_form(least: usize, most: usize, numbers: usize, limit: u16) -> Form
     }
 }
 
-// A line has no room for 8,192 items; behind an unknown word no number of items is right.
+// A line has no room for 8,192 items.
 pub fn form_of(word: Word) -> Form
     ensures { result ≡ form_of word }
 {
@@ -98,27 +91,24 @@ pub fn form_of(word: Word) -> Form
         Word::Read => new_form(1, 1, 0, 0),
         Word::Points => new_form(1, 1, 1, 19),
         Word::Quit => new_form(0, 0, 0, 0),
-        Word::Unknown => new_form(1, 0, 0, 0),
     }
 }
 
 // ---- the items
 
 // The item that starts there is a decimal up to the limit.
+#[tactic(auto, unfolding(crate::specs::Words::number_keeps))]
 fn number_keeps(line: &[u8], from: usize, limit: u16) -> bool
     ensures { result ≡ number_keeps line.now from limit }
 {
-    let x = text::read::decimal_at(line, from);
-    if !x.stands {
+    let Some(x) = text::read::decimal_at(line, from) else {
         return false;
-    }
-    if x.end != crate::items::item_end(line, from) {
-        return false;
-    }
-    x.number <= limit
+    };
+    x.end == crate::items::item_end(line, from) && x.number <= limit
 }
 
 // It is `-`, or an even number of digits.
+#[tactic(auto, using(crate::specs::Items::item_end_least), unfolding(crate::specs::Words::bytes_keep))]
 fn bytes_keep(line: &[u8], from: usize) -> bool
     ensures { result ≡ bytes_keep line.now from }
 {
@@ -126,35 +116,32 @@ fn bytes_keep(line: &[u8], from: usize) -> bool
     if width == 1 {
         return text::read::byte_at(line, from, b'-');
     }
-    if width % 2 != 0 {
-        return false;
-    }
-    text::hexadecimal::hex_at(line, from, width / 2)
+    width % 2 == 0 && text::hexadecimal::hex_at(line, from, width / 2)
 }
 
 // It is of the form of item j, counted from 0 behind the word.
+#[tactic(auto, unfolding(crate::specs::Words::item_keeps))]
 fn item_keeps(line: &[u8], form: Form, j: usize, from: usize) -> bool
     ensures { result ≡ item_keeps line.now form j from }
 {
     if j < form.numbers {
-        return number_keeps(line, from, form.limit);
+        number_keeps(line, from, form.limit)
+    } else {
+        bytes_keep(line, from)
     }
-    bytes_keep(line, from)
 }
 
-// The first of m items that is not of its form; m, where none is.
-pub fn bad_item(line: &[u8], form: Form, m: usize) -> usize
+// The first of m items that is not of its form.
+pub fn bad_item(line: &[u8], form: Form, m: usize) -> Option<usize>
     requires { (length line.now ≤ 8192) × (m ≤ 8192) }
-    ensures { result ≡ bad_item line.now form m }
+    ensures { result ≡ place_in m (bad_item line.now form m) }
 {
     let mut place = crate::items::item_place(line, 1);
-    let mut j: usize = 0;
-    while j < m {
+    for j in 0..m {
         if !item_keeps(line, form, j, place) {
-            return j;
+            return Some(j);
         }
         place = crate::items::item_end(line, place) + 1;
-        j += 1;
     }
-    j
+    None
 }

@@ -1,18 +1,16 @@
 -- Numbers as text beside `decimal` of `rules`, which is for one below 100,000.
 --
--- In order: two numbers; one of any size that code counts with, which is `decimal` below 100,000; a turn of the loop that puts its digits;
--- all of them.
+-- In order: two numbers; one of any size that code counts with, which is `decimal` below 100,000.
 -- Assumes nothing.
 use mathlib.Core.List.{List, [], ◌∷◌, ◌++◌}
-use Rattle.std.specs.Prelude.{◌≡◌, ltb, set}
+use Rattle.std.specs.Prelude.{◌≡◌, ltb}
 use Rattle.std.proofs.Math.Path.{refl, ap, ap₂}
-use Rattle.std.proofs.Common.{sym, ◌∙◌, pow-suc, mul-div_cancel, div-one, arith, lt-ltb, le-ltb}
-use Prim.Native.Nat.{ℕ, zero, suc, ◌+◌, ◌-◌, ◌/◌, ◌%◌, ◌^◌, ◌<◌, ◌≤◌}
-use Rattle.std.proofs.Math.Nat.{one-le-pow, pow-le-pow_right}
+use Rattle.std.proofs.Common.{arith, lt-ltb}
+use Prim.Native.Nat.{ℕ, zero, suc, ◌-◌, ◌^◌, ◌<◌, ◌≤◌}
+use Rattle.std.proofs.Math.Nat.{pow-le-pow_right}
 use Rattle.folds.specs.Tests.{pick}
 use Rattle.folds.specs.Runs.{gather}
 use Rattle.rules.specs.Text.{text, digit_of, decimal}
-use Rattle.text.specs.Puts.{Puts, PutRuns, puts_byte, puts_then, runs_all}
 
 unfoldable pub two_text : ℕ → ℕ → List ℕ
 two_text x y = decimal x ++ text " " ++ decimal y
@@ -38,32 +36,3 @@ module _ (x : ℕ) (small : x < 100000) where
   unfolding gather numeral decimal
   numeral_small =
       ap (λ (t : List ℕ). t ++ piece_of x 15 ++ piece_of x 16 ++ piece_of x 17 ++ piece_of x 18 ++ digit_of x 1 ∷ []) (none_above 15 (omega arith))
-
--- ---- a turn of the loop
-
--- a tenth of a power of ten is the next
-pub power_next : (j : ℕ) {power : ℕ} → j < 19 → power ≡ 10 ^ (19 - j) → power / 10 ≡ 10 ^ (19 - (j + 1))
-power_next j h counts =
-    let e : 19 - j ≡ suc (19 - (j + 1)) = omega arith in
-    ap (λ (n : ℕ). n / 10) (counts ∙ ap (λ (n : ℕ). 10 ^ n) e ∙ pow-suc 10 (19 - (j + 1))) ∙ mul-div_cancel (10 ^ (19 - (j + 1))) (omega arith)
-
-pub power_positive : (n : ℕ) → 1 ≤ 10 ^ n
-power_positive n = one-le-pow n 10 (omega arith)
-
--- the power is at most x: a digit; it is above x: none
-module _ (x j next : ℕ) (out : List ℕ) {power : ℕ} (counts : power ≡ 10 ^ (19 - j)) where
-  pub digit_put : power ≤ x → {next' : ℕ} {out' : List ℕ} → out' ≡ set out next (digit_of x power) → next' ≡ next + 1
-      → Puts out next (piece_of x j) 1 next' out'
-  digit_put g e n = rw (← counts, le-ltb x power g) (n, omega arith, e)
-
-  pub digit_skip : x < power → {next' : ℕ} {out' : List ℕ} → out' ≡ out → next' ≡ next → Puts out next (piece_of x j) 1 next' out'
-  digit_skip g e n = rw (← counts, lt-ltb x power g) (omega arith, omega arith, e)
-
--- ---- all of them
-
-pub digits_all : (x : ℕ) {at next j : ℕ} {out₀ out : List ℕ} → PutRuns (piece_of x) 1 19 at out₀ out next j → 19 ≤ j
-    → Puts out₀ at (numeral x) 20 (next + 1) (set out next (48 + x % 10))
-unfolding numeral
-digits_all x {at} {next} {j} {out₀} {out} h l =
-    puts_then out₀ at (gather 19 (piece_of x)) (digit_of x 1 ∷ []) 19 1 (runs_all h l)
-    (puts_byte out next (ap (λ (y : ℕ). 48 + y % 10) (sym (div-one x))))

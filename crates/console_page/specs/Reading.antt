@@ -2,9 +2,8 @@
 --
 -- In order: its k; the numbers in it; the line of each message; the line of any bytes.
 -- Assumes nothing.
-use Rattle.std.specs.Prelude.{not, List, [], ◌++◌, ℕ, leb, get_or}
-use Rattle.folds.specs.Tests.{pick}
-use Rattle.folds.specs.Below.{first_from}
+use Rattle.std.specs.Prelude.{not, List, [], ◌++◌, ℕ, Option, Some, None, get_or}
+use Rattle.std.specs.List.{find, range_with_len}
 use Rattle.folds.specs.Runs.{gather}
 use Rattle.rules.specs.declared.Element.{Element}
 use Rattle.rules.specs.declared.Four.{Four}
@@ -13,7 +12,9 @@ use Rattle.rules.specs.declared.Polynomials.{Polynomials}
 use Rattle.rules.specs.declared.SetUp.{SetUp}
 use Rattle.rules.specs.Numbers.{element}
 use Rattle.rules.specs.Matrices.{coefficient, α, α', β, β'}
-use Rattle.rules.specs.Messages.{Message, send, echo, ready, recovery, word, malformed, message_in}
+use Rattle.rules.specs.declared.Message.{Message}
+use Rattle.rules.specs.declared.Message.TheVariants.{Send as send, Echo as echo, Ready as ready, Recovery as recovery}
+use Rattle.rules.specs.Messages.{word, malformed, message_in}
 use Rattle.rules.specs.Text.{text, decimal}
 use Rattle.console_page.specs.Numerals.{two_text}
 
@@ -23,10 +24,10 @@ use Rattle.console_page.specs.Numerals.{two_text}
 abbrev pub of_width : ℕ → SetUp
 of_width k = record { group = 0; n = 0; t = 0; k = k; i = 0; d = 0; session = 0 }
 
--- the lowest k from 2 to 8 at which refusal 2 does not hold: the only one but for a recovery share, which has no k. 9 where it
+-- the lowest k from 2 to 8 at which refusal 2 does not hold: the only one but for a recovery share, which has no k. None where it
 -- holds at every k
-unfoldable pub width_in : List ℕ → ℕ
-width_in s = first_from 7 2 (λ k. not (malformed (of_width k) s))
+unfoldable pub width_in : List ℕ → Option ℕ
+width_in s = find (λ k. not (malformed (of_width k) s)) (range_with_len 2 7)
 
 -- ---- the numbers in it
 
@@ -82,5 +83,10 @@ message_text u s (recovery p) = share_line s p
 abbrev pub said_line : SetUp → List ℕ → List ℕ
 said_line u s = message_text u s (message_in u s)
 
+-- what they say at the k that was found
+abbrev pub line_at : List ℕ → Option ℕ → List ℕ
+line_at s None = text "no message\n"
+line_at s (Some k) = said_line (of_width k) s
+
 unfoldable pub read_line : List ℕ → List ℕ
-read_line s = pick (leb (width_in s) 8) (said_line (of_width (width_in s)) s) (text "no message\n")
+read_line s = line_at s (width_in s)

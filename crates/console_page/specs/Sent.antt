@@ -10,7 +10,8 @@ use Rattle.std.proofs.Math.ListN.{length, get_or, take, get_or-append}
 use Rattle.folds.specs.Tests.{pick_true}
 use Rattle.folds.specs.Runs.{gather, gather-same}
 use Rattle.rules.specs.declared.SetUp.{SetUp}
-use Rattle.rules.specs.Messages.{Message, tag_of, bytes_of, whole_length, to_each, written}
+use Rattle.rules.specs.declared.Message.{Message}
+use Rattle.rules.specs.Messages.{tag_of, bytes_of, whole_length, to_each, written}
 use Rattle.rules.specs.Text.{text, decimal}
 use Rattle.rules.proofs.Laws.Lengths.{whole_length_least, length-to_each, piece_to_each, length-written}
 use Rattle.text.specs.Hexadecimal.{hex_pair, hex_of}

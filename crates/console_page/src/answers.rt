@@ -1,6 +1,7 @@
 // What is written for a call: the line of its answer, and its messages; and for `lend`.
 ghost use Rattle.std.specs.Prelude.{◌+◌, ◌*◌, ◌≤◌, length};
-ghost use Rattle.text.specs.Puts.{Puts};
+ghost use Rattle.arrayvec.specs.ArrayVec.{array_vec_len};
+ghost use Rattle.text.specs.Pages.{Adds};
 ghost use Rattle.console_page.specs.Answers.{
   sent_text,
   flag_text,
@@ -13,128 +14,118 @@ ghost use Rattle.console_page.specs.Answers.{
   lent_line,
 };
 
+use arrayvec::ArrayVec;
 use rules::{Answer, Sent};
 
 // ---- the line of an answer
 
-#[tactic(auto, using(text::specs::Puts::puts_word_room), unfolding(crate::specs::Answers::sent_text, rules::specs::Text::text))]
-fn put_sent(page: &mut [u8], at: usize, sent: Sent) -> usize
-    requires { at + 9 ≤ length page.old }
-    ensures { Puts page.old at (sent_text sent) 9 result page.new }
+#[tactic(auto, using(text::specs::Pages::adds_room), unfolding(crate::specs::Answers::sent_text, rules::specs::Text::text))]
+fn put_sent<const N: usize>(page: &mut ArrayVec<u8, N>, sent: Sent)
+    requires { array_vec_len page.old + 9 ≤ N }
+    ensures { Adds page.old (sent_text sent) 9 page.new }
 {
     match sent {
-        Sent::Nothing => text::write::put_word(page, at, b" nothing"),
-        Sent::Send => text::write::put_word(page, at, b" send"),
-        Sent::Echo => text::write::put_word(page, at, b" echo"),
-        Sent::Ready => text::write::put_word(page, at, b" ready"),
-        Sent::Recovery => text::write::put_word(page, at, b" recovery"),
+        Sent::Nothing => text::page::put_word(page, b" nothing"),
+        Sent::Send => text::page::put_word(page, b" send"),
+        Sent::Echo => text::page::put_word(page, b" echo"),
+        Sent::Ready => text::page::put_word(page, b" ready"),
+        Sent::Recovery => text::page::put_word(page, b" recovery"),
     }
 }
 
-fn put_flag(page: &mut [u8], at: usize, flag: bool) -> usize
-    requires { at + 4 ≤ length page.old }
-    ensures { Puts page.old at (flag_text flag) 4 result page.new }
+#[tactic(auto, using(text::specs::Pages::adds_room), unfolding(crate::specs::Answers::flag_text, rules::specs::Text::text))]
+fn put_flag<const N: usize>(page: &mut ArrayVec<u8, N>, flag: bool)
+    requires { array_vec_len page.old + 4 ≤ N }
+    ensures { Adds page.old (flag_text flag) 4 page.new }
 {
-    if flag {
-        return text::write::put_word(page, at, b" yes");
-    }
-    text::write::put_word(page, at, b" no")
+    text::page::put_word(page, if flag { b" yes" } else { b" no" });
 }
 
 // answer NO SENT BYTES
-fn put_told(page: &mut [u8], at: usize, a: Answer) -> usize
-    requires { at + 42 ≤ length page.old }
-    ensures { Puts page.old at (told_text a) 42 result page.new }
+#[tactic(auto, using(text::specs::Pages::adds_then), unfolding(crate::specs::Answers::told_text, rules::specs::Text::text))]
+fn put_told<const N: usize>(page: &mut ArrayVec<u8, N>, a: Answer)
+    requires { array_vec_len page.old + 42 ≤ N }
+    ensures { Adds page.old (told_text a) 42 page.new }
 {
-    let sent = a.sent;
-    let next = crate::numbers::put_numbered(page, at, b"answer ", a.no as u16);
-    let next = put_sent(page, next, sent);
-    let next = text::write::put_word(page, next, b" ");
-    crate::numbers::put_number(page, next, a.bytes)
+    text::page::put_numbered(page, b"answer ", a.no as u16);
+    put_sent(page, a.sent);
+    text::page::put_word(page, b" ");
+    crate::numbers::put_number(page, a.bytes);
 }
 
-pub fn put_answer(page: &mut [u8], at: usize, a: Answer) -> usize
-    requires { at + 63 ≤ length page.old }
-    ensures { Puts page.old at (answer_line a) 63 result page.new }
+#[tactic(auto, using(text::specs::Pages::adds_then), unfolding(crate::specs::Answers::answer_line, rules::specs::Text::text))]
+pub fn put_answer<const N: usize>(page: &mut ArrayVec<u8, N>, a: Answer)
+    requires { array_vec_len page.old + 63 ≤ N }
+    ensures { Adds page.old (answer_line a) 63 page.new }
 {
-    let pair = a.pair;
-    let first = pair.first;
-    let second = pair.second;
-    let next = put_told(page, at, a);
-    let next = put_flag(page, next, a.completed);
-    let next = put_flag(page, next, a.recovered);
-    let next = crate::numbers::put_two(page, next, b" ", first.0, second.0);
-    text::write::put_word(page, next, b"\n")
+    put_told(page, a);
+    put_flag(page, a.completed);
+    put_flag(page, a.recovered);
+    crate::numbers::put_two(page, b" ", a.pair.first.0, a.pair.second.0);
+    text::page::put_word(page, b"\n");
 }
 
 // ---- the messages
 
-// The message to box j: `size` bytes of the buffer.
-fn put_message(page: &mut [u8], at: usize, j: u16, buffer: &[u8], from: usize, size: usize) -> usize
-    requires { (from + size ≤ length buffer.now) × (at + 10 + 2 * size ≤ length page.old) }
-    ensures { Puts page.old at (message_line j buffer.now from size) (10 + 2 * size) result page.new }
+// The message to box j.
+#[tactic(auto, using(text::specs::Pages::adds_then), unfolding(crate::specs::Answers::message_line, rules::specs::Text::text))]
+fn put_message<const N: usize>(page: &mut ArrayVec<u8, N>, j: u16, message: &[u8])
+    requires { array_vec_len page.old + 10 + 2 * length message.now ≤ N }
+    ensures { Adds page.old (message_line j message.now 0 (length message.now)) (10 + 2 * length message.now) page.new }
 {
-    let next = crate::numbers::put_numbered(page, at, b"to ", j);
-    let next = text::write::put_word(page, next, b" ");
-    let next = text::hexadecimal::put_hex(page, next, buffer, from, size);
-    text::write::put_word(page, next, b"\n")
+    text::page::put_numbered(page, b"to ", j);
+    text::page::put_word(page, b" ");
+    text::page::put_hex(page, message);
+    text::page::put_word(page, b"\n");
 }
 
 // A line for each of n messages of one size.
-fn put_each(page: &mut [u8], at: usize, n: usize, size: usize, buffer: &[u8]) -> usize
-    requires { (n ≤ 10) × (n * size ≤ length buffer.now) × (at + 100 + 2 * length buffer.now ≤ length page.old) }
-    ensures { Puts page.old at (each_line n size buffer.now) (100 + 2 * length buffer.now) result page.new }
+#[tactic(auto, using(text::specs::Pages::runs_all), unfolding(crate::specs::Answers::each_line))]
+fn put_each<const N: usize>(page: &mut ArrayVec<u8, N>, n: usize, size: usize, buffer: &[u8])
+    requires { (n ≤ 10) × (n * size ≤ length buffer.now) × (array_vec_len page.old + 100 + 2 * length buffer.now ≤ N) }
+    ensures { Adds page.old (each_line n size buffer.now) (100 + 2 * length buffer.now) page.new }
 {
-    let mut next = at;
-    let mut from: usize = 0;
-    let mut j: usize = 0;
-    let mut number: u16 = 1;
-    while j < n {
-        next = put_message(page, next, number, buffer, from, size);
-        from += size;
-        j += 1;
-        number += 1;
+    for j in 0..n {
+        let from = j * size;
+        put_message(page, (j + 1) as u16, &buffer[from..from + size]);
     }
-    next
 }
 
 // The n messages of a call, of so many bytes together.
-pub fn put_messages(page: &mut [u8], at: usize, n: usize, bytes: usize, buffer: &[u8]) -> usize
-    requires { at + 100 + 2 * length buffer.now ≤ length page.old }
-    ensures { Puts page.old at (message_lines n bytes buffer.now) (100 + 2 * length buffer.now) result page.new }
+#[tactic(auto, using(text::specs::Pages::adds_none), unfolding(crate::specs::Answers::message_lines))]
+pub fn put_messages<const N: usize>(
+    page: &mut ArrayVec<u8, N>,
+    n: usize,
+    bytes: usize,
+    buffer: &[u8],
+)
+    requires { array_vec_len page.old + 100 + 2 * length buffer.now ≤ N }
+    ensures { Adds page.old (message_lines n bytes buffer.now) (100 + 2 * length buffer.now) page.new }
 {
-    if n < 1 {
-        return at;
+    if 1 <= n && n <= 10 && 1 <= bytes && bytes <= buffer.len() {
+        put_each(page, n, bytes / n, buffer);
     }
-    if 10 < n {
-        return at;
-    }
-    if bytes < 1 {
-        return at;
-    }
-    if buffer.len() < bytes {
-        return at;
-    }
-    put_each(page, at, n, bytes / n, buffer)
 }
 
 // ---- a call
 
 // Its answer and its messages.
-pub fn put_call(page: &mut [u8], at: usize, n: usize, a: Answer, buffer: &[u8]) -> usize
-    requires { at + 163 + 2 * length buffer.now ≤ length page.old }
-    ensures { Puts page.old at (call_lines n a buffer.now) (163 + 2 * length buffer.now) result page.new }
+#[tactic(auto, using(text::specs::Pages::adds_then), unfolding(crate::specs::Answers::call_lines))]
+pub fn put_call<const N: usize>(page: &mut ArrayVec<u8, N>, n: usize, a: Answer, buffer: &[u8])
+    requires { array_vec_len page.old + 163 + 2 * length buffer.now ≤ N }
+    ensures { Adds page.old (call_lines n a buffer.now) (163 + 2 * length buffer.now) page.new }
 {
-    let next = put_answer(page, at, a);
-    put_messages(page, next, n, a.bytes, buffer)
+    put_answer(page, a);
+    put_messages(page, n, a.bytes, buffer);
 }
 
 // What the console says to `lend`.
-pub fn put_lent(page: &mut [u8], at: usize, lent: usize) -> usize
-    requires { at + 26 ≤ length page.old }
-    ensures { Puts page.old at (lent_line lent) 26 result page.new }
+#[tactic(auto, using(text::specs::Pages::adds_then), unfolding(crate::specs::Answers::lent_line, rules::specs::Text::text))]
+pub fn put_lent<const N: usize>(page: &mut ArrayVec<u8, N>, lent: usize)
+    requires { array_vec_len page.old + 26 ≤ N }
+    ensures { Adds page.old (lent_line lent) 26 page.new }
 {
-    let next = text::write::put_word(page, at, b"lent ");
-    let next = crate::numbers::put_number(page, next, lent);
-    text::write::put_word(page, next, b"\n")
+    text::page::put_word(page, b"lent ");
+    crate::numbers::put_number(page, lent);
+    text::page::put_word(page, b"\n");
 }

@@ -1,87 +1,71 @@
 // The parts of what a message says.
 ghost use Rattle.std.specs.Prelude.{◌++◌, ◌+◌, ◌≤◌, length};
 ghost use Rattle.rules.specs.Matrices.{coefficient};
-ghost use Rattle.text.specs.Puts.{Puts};
+ghost use Rattle.arrayvec.specs.ArrayVec.{array_vec_len};
+ghost use Rattle.text.specs.Pages.{Adds};
 ghost use Rattle.console_page.specs.Reading.{numbers_text, row_number, entries_text, matrix_text, polynomials_text, four_text};
 
+use arrayvec::ArrayVec;
 use rules::{Element, Exponent, Four, Polynomials};
 
-// A word, and the k coefficients of a polynomial.
-fn put_exponents(page: &mut [u8], at: usize, word: &[u8], k: usize, a: [Exponent; 8]) -> usize
-    requires { (k ≤ 8) × (at + length word.now + 48 ≤ length page.old) }
-    ensures { Puts page.old at (word.now ++ numbers_text k (coefficient a)) (length word.now + 48) result page.new }
-{
-    let mut next = text::write::put_word(page, at, word);
-    let mut l: usize = 0;
-    while l < k {
-        let x = a[l];
-        next = crate::numbers::put_numbered(page, next, b" ", x.0);
-        l += 1;
-    }
-    next
-}
-
 // The k entries of a row.
-fn put_row(page: &mut [u8], at: usize, k: usize, row: [Element; 8]) -> usize
-    requires { (k ≤ 8) × (at + 48 ≤ length page.old) }
-    ensures { Puts page.old at (numbers_text k (row_number row)) 48 result page.new }
+fn put_row<const N: usize>(page: &mut ArrayVec<u8, N>, k: usize, row: [Element; 8])
+    requires { (k ≤ 8) × (array_vec_len page.old + 48 ≤ N) }
+    ensures { Adds page.old (numbers_text k (row_number row)) 48 page.new }
 {
-    let mut next = at;
-    let mut l: usize = 0;
-    while l < k {
-        let x = row[l];
-        next = crate::numbers::put_numbered(page, next, b" ", x.0);
-        l += 1;
+    text::page::put_numbers(page, &row.map(|x| x.0)[..k]);
+}
+
+// A word, and the k coefficients of a polynomial.
+fn put_polynomial<const N: usize>(
+    page: &mut ArrayVec<u8, N>,
+    word: &[u8],
+    k: usize,
+    a: [Exponent; 8],
+)
+    requires { (k ≤ 8) × (array_vec_len page.old + length word.now + 48 ≤ N) }
+    ensures { Adds page.old (word.now ++ numbers_text k (coefficient a)) (length word.now + 48) page.new }
+{
+    text::page::put_word(page, word);
+    text::page::put_numbers(page, &a.map(|x| x.0)[..k]);
+}
+
+#[tactic(auto, using(text::specs::Pages::runs_all), unfolding(crate::specs::Reading::entries_text))]
+fn put_entries<const N: usize>(page: &mut ArrayVec<u8, N>, k: usize, c: [[Element; 8]; 8])
+    requires { (k ≤ 8) × (array_vec_len page.old + 384 ≤ N) }
+    ensures { Adds page.old (entries_text k c) 384 page.new }
+{
+    for row in &c[..k] {
+        put_row(page, k, *row);
     }
-    next
 }
 
-fn put_entries(page: &mut [u8], at: usize, k: usize, c: [[Element; 8]; 8]) -> usize
-    requires { (k ≤ 8) × (at + 384 ≤ length page.old) }
-    ensures { Puts page.old at (entries_text k c) 384 result page.new }
+#[tactic(auto, using(text::specs::Pages::adds_then), unfolding(crate::specs::Reading::matrix_text, rules::specs::Text::text))]
+pub fn put_matrix<const N: usize>(page: &mut ArrayVec<u8, N>, k: u32, c: [[Element; 8]; 8])
+    requires { (k ≤ 8) × (array_vec_len page.old + 399 ≤ N) }
+    ensures { Adds page.old (matrix_text k c) 399 page.new }
 {
-    let mut next = at;
-    let mut j: usize = 0;
-    while j < k {
-        let row = c[j];
-        next = put_row(page, next, k, row);
-        j += 1;
-    }
-    next
+    text::page::put_numbered(page, b" k ", k as u16);
+    text::page::put_word(page, b" matrix");
+    put_entries(page, k as usize, c);
 }
 
-pub fn put_matrix(page: &mut [u8], at: usize, k: u32, c: [[Element; 8]; 8]) -> usize
-    requires { (k ≤ 8) × (at + 399 ≤ length page.old) }
-    ensures { Puts page.old at (matrix_text k c) 399 result page.new }
+#[tactic(auto, using(text::specs::Pages::adds_then), unfolding(crate::specs::Reading::polynomials_text, rules::specs::Text::text))]
+pub fn put_polynomials<const N: usize>(page: &mut ArrayVec<u8, N>, k: u32, p: Polynomials)
+    requires { (k ≤ 8) × (array_vec_len page.old + 202 ≤ N) }
+    ensures { Adds page.old (polynomials_text k p) 202 page.new }
 {
-    let next = crate::numbers::put_numbered(page, at, b" k ", k as u16);
-    let next = text::write::put_word(page, next, b" matrix");
-    put_entries(page, next, k as usize, c)
+    put_polynomial(page, b" a", k as usize, p.a);
+    put_polynomial(page, b" a'", k as usize, p.a2);
+    put_polynomial(page, b" b", k as usize, p.b);
+    put_polynomial(page, b" b'", k as usize, p.b2);
 }
 
-pub fn put_polynomials(page: &mut [u8], at: usize, k: u32, p: Polynomials) -> usize
-    requires { (k ≤ 8) × (at + 202 ≤ length page.old) }
-    ensures { Puts page.old at (polynomials_text k p) 202 result page.new }
+#[tactic(auto, using(text::specs::Pages::adds_then), unfolding(crate::specs::Reading::four_text, rules::specs::Text::text))]
+pub fn put_four<const N: usize>(page: &mut ArrayVec<u8, N>, f: Four)
+    requires { array_vec_len page.old + 35 ≤ N }
+    ensures { Adds page.old (four_text f) 35 page.new }
 {
-    let w = k as usize;
-    let a = p.a;
-    let a2 = p.a2;
-    let b = p.b;
-    let b2 = p.b2;
-    let next = put_exponents(page, at, b" a", w, a);
-    let next = put_exponents(page, next, b" a'", w, a2);
-    let next = put_exponents(page, next, b" b", w, b);
-    put_exponents(page, next, b" b'", w, b2)
-}
-
-pub fn put_four(page: &mut [u8], at: usize, f: Four) -> usize
-    requires { at + 35 ≤ length page.old }
-    ensures { Puts page.old at (four_text f) 35 result page.new }
-{
-    let alpha = f.alpha;
-    let alpha2 = f.alpha2;
-    let beta = f.beta;
-    let beta2 = f.beta2;
-    let next = crate::numbers::put_two(page, at, b" alpha ", alpha.0, alpha2.0);
-    crate::numbers::put_two(page, next, b" beta ", beta.0, beta2.0)
+    crate::numbers::put_two(page, b" alpha ", f.alpha.0, f.alpha2.0);
+    crate::numbers::put_two(page, b" beta ", f.beta.0, f.beta2.0);
 }

@@ -1,43 +1,26 @@
 // Numbers on the page.
 ghost use Rattle.std.specs.Prelude.{◌++◌, ◌+◌, ◌≤◌, length};
-ghost use Rattle.rules.specs.Text.{decimal};
-ghost use Rattle.text.specs.Puts.{Puts};
+ghost use Rattle.arrayvec.specs.ArrayVec.{array_vec_len};
+ghost use Rattle.text.specs.Pages.{Adds};
 ghost use Rattle.console_page.specs.Numerals.{two_text, numeral};
 
-// A word and a number behind it.
-pub fn put_numbered(page: &mut [u8], at: usize, word: &[u8], x: u16) -> usize
-    requires { at + length word.now + 5 ≤ length page.old }
-    ensures { Puts page.old at (word.now ++ decimal x) (length word.now + 5) result page.new }
-{
-    let next = text::write::put_word(page, at, word);
-    text::write::put_decimal(page, next, x as u32)
-}
+use arrayvec::ArrayVec;
 
 // A word, and two numbers behind it.
-pub fn put_two(page: &mut [u8], at: usize, word: &[u8], x: u16, y: u16) -> usize
-    requires { at + length word.now + 11 ≤ length page.old }
-    ensures { Puts page.old at (word.now ++ two_text x y) (length word.now + 11) result page.new }
+#[tactic(auto, using(text::specs::Pages::adds_then), unfolding(crate::specs::Numerals::two_text, rules::specs::Text::text))]
+pub fn put_two<const N: usize>(page: &mut ArrayVec<u8, N>, word: &[u8], x: u16, y: u16)
+    requires { array_vec_len page.old + length word.now + 11 ≤ N }
+    ensures { Adds page.old (word.now ++ two_text x y) (length word.now + 11) page.new }
 {
-    let next = put_numbered(page, at, word, x);
-    put_numbered(page, next, b" ", y)
+    text::page::put_numbered(page, word, x);
+    text::page::put_numbered(page, b" ", y);
 }
 
 // Any number: twenty digits at most.
-pub fn put_number(page: &mut [u8], at: usize, x: usize) -> usize
-    requires { at + 20 ≤ length page.old }
-    ensures { Puts page.old at (numeral x) 20 result page.new }
+#[tactic(auto, unfolding(crate::specs::Numerals::numeral, text::specs::Pages::digits))]
+pub fn put_number<const N: usize>(page: &mut ArrayVec<u8, N>, x: usize)
+    requires { array_vec_len page.old + 20 ≤ N }
+    ensures { Adds page.old (numeral x) 20 page.new }
 {
-    let mut next = at;
-    let mut power: usize = 10_000_000_000_000_000_000;
-    let mut j: usize = 0;
-    while j < 19 {
-        if power <= x {
-            page[next] = (48 + x / power % 10) as u8;
-            next += 1;
-        }
-        power /= 10;
-        j += 1;
-    }
-    page[next] = (48 + x % 10) as u8;
-    next + 1
+    text::page::put_digits(page, 19, x);
 }

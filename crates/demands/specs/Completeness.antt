@@ -19,7 +19,9 @@ use Rattle.rules.specs.declared.SetUp.{SetUp}
 use Rattle.rules.specs.declared.Slot.{Slot}
 use Rattle.rules.specs.Numbers.{is_box}
 use Rattle.rules.specs.Matrices.{zero_four}
-use Rattle.rules.specs.Messages.{Message, recovery, matrix_in, polynomials_in, tag_of, bytes_of, to_each}
+use Rattle.rules.specs.declared.Message.{Message}
+use Rattle.rules.specs.declared.Message.TheVariants.{Recovery as recovery}
+use Rattle.rules.specs.Messages.{matrix_in, polynomials_in, tag_of, bytes_of, to_each}
 use Rattle.rules.specs.Dealing.{coins_keep, matrix_passes, pair_below, point_check, share_check}
 use Rattle.rules.specs.Record.{slot_at, heard_for, matrix_of, kept_below, same_matrix}
 use Rattle.rules.specs.Steps.{points, completed_share, share_bytes}

@@ -17,7 +17,8 @@ use Rattle.rules.specs.declared.Sent.TheVariants.{Send, Echo, Ready, Recovery}
 use Rattle.rules.specs.declared.SetUp.{SetUp}
 use Rattle.rules.specs.Numbers.{group_of, group_keeps, is_box, numbers_keep}
 use Rattle.rules.specs.Matrices.{entry, zero_four}
-use Rattle.rules.specs.Messages.{echo, recovery, tag_in, matrix_in, polynomials_in, to_each}
+use Rattle.rules.specs.declared.Message.TheVariants.{Echo as echo, Recovery as recovery}
+use Rattle.rules.specs.Messages.{tag_in, matrix_in, polynomials_in, to_each}
 use Rattle.rules.specs.Dealing.{coins_keep, committed, matrix_passes, share_check}
 use Rattle.rules.specs.Record.{slot_at, place_at, share_at, matrix_of, sound, same_matrix, heard_for}
 use Rattle.rules.specs.Steps.{Said, share_points, pair_from, echo_four, recovered_from}

@@ -38,7 +38,8 @@ use Rattle.rules.specs.declared.Sent.TheVariants.{Send, Echo, Recovery}
 use Rattle.rules.specs.declared.SetUp.{SetUp}
 use Rattle.rules.specs.declared.Slot.{Slot}
 use Rattle.rules.specs.Matrices.{entry}
-use Rattle.rules.specs.Messages.{echo, recovery, tag_in, matrix_in, polynomials_in, to_each}
+use Rattle.rules.specs.declared.Message.TheVariants.{Echo as echo, Recovery as recovery}
+use Rattle.rules.specs.Messages.{tag_in, matrix_in, polynomials_in, to_each}
 use Rattle.rules.specs.Dealing.{coins_keep, committed, point_check, share_check}
 use Rattle.rules.specs.Record.{slot_at, place_at, share_at, is_held, held, matrix_of, sound}
 use Rattle.rules.specs.Steps.{points, share_points, pair_from, echo_four, recovered_from}

@@ -4,7 +4,8 @@ use Rattle.std.specs.Prelude.{◌≡◌, List, ℕ, ◌*◌, ◌-◌, ◌/◌, �
 use Rattle.std.proofs.Common.{ap, ◌∙◌, arith}
 use Rattle.std.proofs.Math.Nat.{mul-div_cancel_left}
 use Rattle.rules.specs.declared.SetUp.{SetUp}
-use Rattle.rules.specs.Messages.{Message, tag_of, bytes_of, whole_length, to_each}
+use Rattle.rules.specs.declared.Message.{Message}
+use Rattle.rules.specs.Messages.{tag_of, bytes_of, whole_length, to_each}
 use Rattle.rules.proofs.Laws.Lengths.{length-to_each, piece_to_each}
 use Rattle.demands.specs.Terms.Histories.{message_to}
 

@@ -9,7 +9,9 @@ use Rattle.folds.specs.Runs.{gather-same}
 use Rattle.rules.specs.declared.Element.{Element}
 use Rattle.rules.specs.declared.Four.{Four}
 use Rattle.rules.specs.declared.SetUp.{SetUp}
-use Rattle.rules.specs.Messages.{Message, send, echo, ready, recovery, two_bytes, matrix_bytes, polynomial_bytes, four_bytes, tag_of, body_of, framed, bytes_of, to_each, matrix_in, polynomials_in, four_in, message_in}
+use Rattle.rules.specs.declared.Message.{Message}
+use Rattle.rules.specs.declared.Message.TheVariants.{Send as send, Echo as echo, Ready as ready, Recovery as recovery}
+use Rattle.rules.specs.Messages.{two_bytes, matrix_bytes, polynomial_bytes, four_bytes, tag_of, body_of, framed, bytes_of, to_each, matrix_in, polynomials_in, four_in, message_in}
 use Rattle.rules.specs.Record.{same_matrix}
 use Rattle.rules.specs.Answers.{exponents_keep, set_up, set_up_rows, outcome_of, accepted, first_row}
 use Rattle.rules.proofs.Laws.Sound.{agree_at}

@@ -11,7 +11,7 @@ use Rattle.std.specs.Prelude.{Option, Some, None, is_some}
 use Rattle.rules.specs.declared.Record.{Record}
 use Rattle.rules.specs.declared.Sent.{Sent}
 use Rattle.rules.specs.declared.Sent.TheVariants.{Send, Echo, Ready, Recovery}
-use Rattle.rules.specs.Messages.{send, echo, ready}
+use Rattle.rules.specs.declared.Message.TheVariants.{Send as send, Echo as echo, Ready as ready}
 use Rattle.rules.specs.Record.{slot_at, matrix_of, same_matrix, heard_for, zero_record}
 use Rattle.rules.specs.Answers.{Done, set_up}
 use Rattle.rules.specs.Computed.{computed}

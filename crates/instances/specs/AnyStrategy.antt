@@ -13,7 +13,9 @@ use Rattle.rules.specs.declared.Four.{Four}
 use Rattle.rules.specs.declared.Pair.{Pair}
 use Rattle.rules.specs.Numbers.{is_box}
 use Rattle.rules.specs.Matrices.{α, α', β, β'}
-use Rattle.rules.specs.Messages.{Message, send, echo, ready, bytes_of, matrix_in, polynomials_in, four_in}
+use Rattle.rules.specs.declared.Message.{Message}
+use Rattle.rules.specs.declared.Message.TheVariants.{Send as send, Echo as echo, Ready as ready}
+use Rattle.rules.specs.Messages.{bytes_of, matrix_in, polynomials_in, four_in}
 use Rattle.rules.specs.Steps.{echo_four}
 use Rattle.rules.specs.Computed.{computed}
 use Rattle.rules.specs.HandSums.{four, pair}

@@ -7,7 +7,8 @@ use Rattle.std.specs.Prelude.{◌≡◌, refl, Bool, true, false, List, [], ◌�
 use Rattle.rules.specs.declared.Answer.{Answer}
 use Rattle.rules.specs.declared.Marks.{Marks}
 use Rattle.rules.specs.declared.Record.{Record}
-use Rattle.rules.specs.Messages.{send, echo, ready, recovery, bytes_of}
+use Rattle.rules.specs.declared.Message.TheVariants.{Send as send, Echo as echo, Ready as ready, Recovery as recovery}
+use Rattle.rules.specs.Messages.{bytes_of}
 use Rattle.rules.specs.Record.{new_record, zero_record}
 use Rattle.rules.specs.Answers.{deliver}
 use Rattle.rules.specs.Computed.{computed}

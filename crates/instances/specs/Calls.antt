@@ -5,7 +5,9 @@
 -- Assumes nothing.
 use Rattle.std.specs.Prelude.{List, [], ◌∷◌, ◌++◌, ℕ}
 use Rattle.rules.specs.declared.Element.{Element}
-use Rattle.rules.specs.Messages.{Message, send, echo, ready, recovery, bytes_of}
+use Rattle.rules.specs.declared.Message.{Message}
+use Rattle.rules.specs.declared.Message.TheVariants.{Send as send, Echo as echo, Ready as ready, Recovery as recovery}
+use Rattle.rules.specs.Messages.{bytes_of}
 use Rattle.rules.specs.HandSums.{class, coins, four, pair, C, dealt, point, share}
 use Rattle.demands.specs.Terms.Histories.{Call, deals, gets, commanded}
 

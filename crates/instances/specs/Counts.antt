@@ -20,7 +20,7 @@ use Rattle.rules.specs.declared.Slot.{Slot}
 use Rattle.rules.specs.declared.Sent.TheVariants.{Ready, Recovery}
 use Rattle.rules.specs.Numbers.{element}
 use Rattle.rules.specs.Matrices.{matrix, entry}
-use Rattle.rules.specs.Messages.{echo, ready, recovery}
+use Rattle.rules.specs.declared.Message.TheVariants.{Echo as echo, Ready as ready, Recovery as recovery}
 use Rattle.rules.specs.Record.{slot_at, matrix_of, count_e, count_r, zero_slot, new_record}
 use Rattle.rules.specs.Steps.{with_slots, with_heard, heard, opened, taken, keeping}
 use Rattle.rules.specs.Computed.{computed}

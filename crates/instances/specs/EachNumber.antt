@@ -7,7 +7,9 @@ use Rattle.rules.specs.declared.Outcome.{Outcome}
 use Rattle.rules.specs.declared.Record.{Record}
 use Rattle.rules.specs.Numbers.{element}
 use Rattle.rules.specs.Matrices.{matrix}
-use Rattle.rules.specs.Messages.{Message, send, echo, ready, recovery, bytes_of}
+use Rattle.rules.specs.declared.Message.{Message}
+use Rattle.rules.specs.declared.Message.TheVariants.{Send as send, Echo as echo, Ready as ready, Recovery as recovery}
+use Rattle.rules.specs.Messages.{bytes_of}
 use Rattle.rules.specs.Record.{new_record, zero_record}
 use Rattle.rules.specs.Answers.{set_up, deal, recover, deliver}
 use Rattle.rules.specs.Computed.{computed}

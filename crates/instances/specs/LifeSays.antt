@@ -10,7 +10,8 @@ use Rattle.rules.specs.declared.Answer.{Answer}
 use Rattle.std.specs.Prelude.{Option, Some, None, is_some}
 use Rattle.rules.specs.declared.Point.TheVariants.{Held}
 use Rattle.rules.specs.Matrices.{entry}
-use Rattle.rules.specs.Messages.{echo, matrix_in, polynomials_in, to_each}
+use Rattle.rules.specs.declared.Message.TheVariants.{Echo as echo}
+use Rattle.rules.specs.Messages.{matrix_in, polynomials_in, to_each}
 use Rattle.rules.specs.Dealing.{coins_keep, committed, share_check}
 use Rattle.rules.specs.Record.{slot_at, matrix_of, sound}
 use Rattle.rules.specs.Steps.{share_points, pair_from, echo_four, recovered_from}

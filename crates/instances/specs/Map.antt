@@ -10,7 +10,8 @@ use Rattle.std.proofs.Math.Nat.{mod-mod}
 use Rattle.folds.specs.Runs.{gather-same}
 use Rattle.rules.specs.declared.SetUp.{SetUp}
 use Rattle.rules.specs.Numbers.{groups, group_of}
-use Rattle.rules.specs.Messages.{send, tag_of, body_of, framed, bytes_of, two_bytes, matrix_bytes, coefficient_bytes, polynomial_bytes}
+use Rattle.rules.specs.declared.Message.TheVariants.{Send as send}
+use Rattle.rules.specs.Messages.{tag_of, body_of, framed, bytes_of, two_bytes, matrix_bytes, coefficient_bytes, polynomial_bytes}
 use Rattle.rules.specs.Dealing.{f_of, f'_of, coins_keep, polynomials_of, from_coins}
 use Rattle.rules.specs.Computed.{computed}
 use Rattle.rules.specs.HandSums.{coins, C, dealt}

@@ -13,7 +13,8 @@ use Rattle.rules.specs.declared.Record.{Record}
 use Rattle.rules.specs.declared.Sent.{Sent}
 use Rattle.rules.specs.declared.Sent.TheVariants.{Nothing, Ready}
 use Rattle.rules.specs.declared.SetUp.{SetUp}
-use Rattle.rules.specs.Messages.{ready, bytes_of}
+use Rattle.rules.specs.declared.Message.TheVariants.{Ready as ready}
+use Rattle.rules.specs.Messages.{bytes_of}
 use Rattle.rules.specs.Record.{slot_at, matrix_of, same_matrix, zero_record}
 use Rattle.rules.specs.Answers.{set_up}
 use Rattle.rules.specs.Computed.{computed}

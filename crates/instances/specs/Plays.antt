@@ -9,7 +9,8 @@ use Rattle.rules.specs.declared.Record.{Record}
 use Rattle.rules.specs.declared.SetUp.{SetUp}
 use Rattle.rules.specs.declared.Sent.{Sent}
 use Rattle.rules.specs.declared.Sent.TheVariants.{Nothing}
-use Rattle.rules.specs.Messages.{Message, bytes_of}
+use Rattle.rules.specs.declared.Message.{Message}
+use Rattle.rules.specs.Messages.{bytes_of}
 use Rattle.rules.specs.Answers.{Done}
 use Rattle.rules.specs.HandSums.{pair}
 use Rattle.demands.specs.Terms.Histories.{Call, gets, doing, wrote}

@@ -11,7 +11,9 @@ use Rattle.rules.specs.declared.Element.{Element}
 use Rattle.rules.specs.declared.Four.{Four}
 use Rattle.rules.specs.declared.SetUp.{SetUp}
 use Rattle.rules.specs.Matrices.{α, α', β, β'}
-use Rattle.rules.specs.Messages.{Message, send, echo, ready, bytes_of}
+use Rattle.rules.specs.declared.Message.{Message}
+use Rattle.rules.specs.declared.Message.TheVariants.{Send as send, Echo as echo, Ready as ready}
+use Rattle.rules.specs.Messages.{bytes_of}
 use Rattle.rules.specs.Dealing.{coins_keep}
 use Rattle.rules.specs.Computed.{computed}
 use Rattle.rules.specs.HandSums.{sized, four}

@@ -9,7 +9,8 @@ use Rattle.std.specs.Prelude.{Option, Some, None, is_some}
 use Rattle.rules.specs.declared.Four.{Four}
 use Rattle.rules.specs.declared.Sent.{Sent}
 use Rattle.rules.specs.declared.Sent.TheVariants.{Nothing, Send, Echo, Ready, Recovery}
-use Rattle.rules.specs.Messages.{echo, ready, recovery, matrix_in, polynomials_in, to_each}
+use Rattle.rules.specs.declared.Message.TheVariants.{Echo as echo, Ready as ready, Recovery as recovery}
+use Rattle.rules.specs.Messages.{matrix_in, polynomials_in, to_each}
 use Rattle.rules.specs.Record.{slot_at}
 use Rattle.rules.specs.Steps.{Said, echo_four, ready_four}
 use Rattle.rules.specs.Answers.{pair_told}

@@ -1,2 +1,2 @@
 -- What the proofs of several functions use: the values that points give.
-mod Values
+pub mod Values

@@ -12,7 +12,7 @@ use Rattle.rules.specs.Numbers.{exponent}
 use Rattle.rules.specs.Matrices.{row, coefficient}
 use Rattle.rules.specs.Steps.{Said, through}
 use Rattle.interpolation.specs.declared.Points.{Points}
-use Rattle.interpolation.specs.Points.{box_at}
+use Rattle.interpolation.specs.Points.{boxes_of, firsts_of, seconds_of, box_at}
 
 abbrev pub inverse_at : ℕ → ℕ → List ℕ → ℕ → Exponent
 inverse_at q count boxes i = exponent (inverse q (others q count (box_at boxes) i (box_at boxes i)))
@@ -31,7 +31,7 @@ weighted_sum q count w y = sum_below count (λ i. coefficient w i * coefficient 
 
 unfoldable pub weighted_pair : ℕ → List Exponent → Points → Pair
 weighted_pair q w p =
-    record { first = exponent (weighted_sum q p.count w p.first); second = exponent (weighted_sum q p.count w p.second) }
+    record { first = exponent (weighted_sum q p.count w (firsts_of p)); second = exponent (weighted_sum q p.count w (seconds_of p)) }
 
 -- ---- values at x
 
@@ -54,15 +54,15 @@ four_through q rows columns x =
 pub record Fit (q : ℕ) (p : Points) : Type 0 where
   pub some : 0 < q
   pub few : p.count ≤ 8
-  pub low : (j : ℕ) → j < p.count → box_at p.boxes j ≤ q
+  pub low : (j : ℕ) → j < p.count → box_at (boxes_of p) j ≤ q
 
 pub record Based (q : ℕ) (p : Points) (under : List Exponent) : Type 0 where
   pub fit : Fit q p
-  pub inverses : under ≡ inverse_row q p.count p.boxes
+  pub inverses : under ≡ inverse_row q p.count (boxes_of p)
 
 -- two lots of points at the same boxes
 pub record Sides (q : ℕ) (one other : Points) (under : List Exponent) : Type 0 where
   pub based : Based q one under
   pub fit : Fit q other
   pub count : other.count ≡ one.count
-  pub boxes : other.boxes ≡ one.boxes
+  pub boxes : boxes_of other ≡ boxes_of one

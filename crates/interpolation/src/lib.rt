@@ -5,34 +5,40 @@
 ghost use Rattle.std.specs.Prelude.{◌≡◌, ◌<◌, ◌≤◌};
 ghost use Rattle.algebra.specs.Interpolation.{others};
 ghost use Rattle.rules.specs.Numbers.{exponent};
-ghost use Rattle.interpolation.specs.Points.{box_at, said_by};
+ghost use Rattle.interpolation.specs.Points.{boxes_of, box_at, said_by};
 ghost use Rattle.interpolation.specs.Lagrange.{Fit, Based, Sides, inverse_row, weight_row, weighted_sum, weighted_pair, pair_through, four_through};
 
+use arithmetic::matrices::filled;
 use rules::{Exponent, Four, Pair};
 
-// As many points as `count` says: the box that each stands at, and its pair of numbers there.
+// The box that a point stands at, and its pair of numbers there.
+#[derive(Clone, Copy)]
+pub struct Numbered {
+    pub number: u16,
+    pub pair: Pair,
+}
+
+// As many points as `count` says, and zeros behind.
 #[derive(Clone, Copy)]
 pub struct Points {
     pub count: usize,
-    pub boxes: [u16; 8],
-    pub first: [Exponent; 8],
-    pub second: [Exponent; 8],
+    pub said: [Numbered; 8],
 }
 
 // The product of x - x_j over all boxes x_j but that of point i.
 fn others_at(q: u16, all: Points, i: usize, x: u16) -> Exponent
     requires { Fit q all }
-    ensures { result ≡ exponent (others q all.count (box_at all.boxes) i x) }
+    ensures { result ≡ exponent (others q all.count (box_at (boxes_of all)) i x) }
 {
-    let count = all.count;
     let mut made = Exponent(1 % q);
-    let mut j: usize = 0;
-    while j < count {
+    for j in 0..all.count {
         if j != i {
-            let away = arithmetic::difference(q, Exponent(x), Exponent(all.boxes[j]));
-            made = arithmetic::product(q, made, away);
+            made = arithmetic::product(
+                q,
+                made,
+                arithmetic::difference(q, Exponent(x), Exponent(all.said[j].number)),
+            );
         }
-        j += 1;
     }
     made
 }
@@ -40,50 +46,35 @@ fn others_at(q: u16, all: Points, i: usize, x: u16) -> Exponent
 // One inverse for each point; it serves every x.
 pub fn inverses(q: u16, all: Points) -> [Exponent; 8]
     requires { Fit q all }
-    ensures { result ≡ inverse_row q all.count all.boxes }
+    ensures { result ≡ inverse_row q all.count (boxes_of all) }
 {
-    let count = all.count;
-    let mut made = [Exponent(0); 8];
-    let mut i: usize = 0;
-    while i < count {
-        let own = others_at(q, all, i, all.boxes[i]);
-        let x = arithmetic::inverted(q, own);
-        made[i] = x;
-        i += 1;
-    }
-    made
+    filled(
+        Exponent(0),
+        all.count,
+        |i| arithmetic::inverted(q, others_at(q, all, i, all.said[i].number)),
+    )
 }
 
 // What the value of each point counts at x.
 fn weights(q: u16, all: Points, inverse: [Exponent; 8], x: u16) -> [Exponent; 8]
     requires { Based q all inverse }
-    ensures { result ≡ weight_row q all.count all.boxes x }
+    ensures { result ≡ weight_row q all.count (boxes_of all) x }
 {
-    let count = all.count;
-    let mut made = [Exponent(0); 8];
-    let mut i: usize = 0;
-    while i < count {
-        let over = others_at(q, all, i, x);
-        let under = inverse[i];
-        let w = arithmetic::product(q, over, under);
-        made[i] = w;
-        i += 1;
-    }
-    made
+    filled(
+        Exponent(0),
+        all.count,
+        |i| arithmetic::product(q, others_at(q, all, i, x), inverse[i]),
+    )
 }
 
+#[tactic(auto, unfolding(crate::specs::Lagrange::weighted_sum))]
 fn weighted(q: u16, count: usize, weight: [Exponent; 8], value: [Exponent; 8]) -> Exponent
     requires { (0 < q) × (count ≤ 8) }
     ensures { result ≡ exponent (weighted_sum q count weight value) }
 {
-    let mut sum = Exponent(0 % q);
-    let mut i: usize = 0;
-    while i < count {
-        let w = weight[i];
-        let y = value[i];
-        let term = arithmetic::product(q, w, y);
-        sum = arithmetic::sum(q, sum, term);
-        i += 1;
+    let mut sum = Exponent(0);
+    for i in 0..count {
+        sum = arithmetic::sum(q, sum, arithmetic::product(q, weight[i], value[i]));
     }
     sum
 }
@@ -92,12 +83,9 @@ fn weighted_pair(q: u16, weight: [Exponent; 8], all: Points) -> Pair
     requires { Fit q all }
     ensures { result ≡ weighted_pair q weight all }
 {
-    let count = all.count;
-    let first = all.first;
-    let second = all.second;
     Pair {
-        first: weighted(q, count, weight, first),
-        second: weighted(q, count, weight, second),
+        first: weighted(q, all.count, weight, all.said.map(|s| s.pair.first)),
+        second: weighted(q, all.count, weight, all.said.map(|s| s.pair.second)),
     }
 }
 
@@ -106,8 +94,7 @@ pub fn pair_at(q: u16, all: Points, inverse: [Exponent; 8], x: u16) -> Pair
     requires { Based q all inverse }
     ensures { result ≡ pair_through q (said_by all) x }
 {
-    let weight = weights(q, all, inverse, x);
-    weighted_pair(q, weight, all)
+    weighted_pair(q, weights(q, all, inverse, x), all)
 }
 
 // The same through points at the same boxes, a pair of polynomials from each: a(x), a'(x), b(x), b'(x).
@@ -118,14 +105,10 @@ pub fn four_at(q: u16, rows: Points, columns: Points, inverse: [Exponent; 8], x:
     let weight = weights(q, rows, inverse, x);
     let a = weighted_pair(q, weight, rows);
     let b = weighted_pair(q, weight, columns);
-    let alpha = a.first;
-    let alpha2 = a.second;
-    let beta = b.first;
-    let beta2 = b.second;
     Four {
-        alpha,
-        alpha2,
-        beta,
-        beta2,
+        alpha: a.first,
+        alpha2: a.second,
+        beta: b.first,
+        beta2: b.second,
     }
 }

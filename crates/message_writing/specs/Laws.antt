@@ -2,10 +2,12 @@
 --
 -- In order: runs put one behind the other; a loop that puts runs of one width; a whole message; a message to each box.
 -- Assumes nothing.
-use mathlib.Core.List.{List, ◌∷◌, ◌++◌}
+use borrow.Rule.Slice.PartMut.{put_mid}
+use mathlib.Core.List.{List, [], ◌∷◌, ◌++◌, append_assoc}
 use Rattle.std.specs.Prelude.{◌≡◌, take, drop}
 use Rattle.std.proofs.Math.Path.{refl, sym, ap}
-use Rattle.std.proofs.Common.{subst, ◌∙◌, length-append, length-drop}
+use Rattle.std.proofs.Common.{subst, ◌∙◌, length-append, length-drop, drop-drop}
+use Rattle.std.proofs.lemmas.List.Edits.{sets-eq}
 use Prim.Native.Nat.{ℕ, ◌+◌, ◌-◌, ◌*◌, ◌<◌, ◌≤◌}
 use native.Mathlib.Omega.{arith}
 use Rattle.std.proofs.Math.ListN.{length}
@@ -16,7 +18,8 @@ use Rattle.rules.specs.declared.Four.{Four}
 use Rattle.rules.specs.declared.SetUp.{SetUp}
 use Rattle.rules.specs.declared.Side.{Side}
 use Rattle.rules.specs.declared.Side.TheVariants.{ByEcho, ByReady}
-use Rattle.rules.specs.Messages.{Message, saying, side_tag, two_bytes, matrix_bytes, four_bytes, tag_of, body_of, framed, bytes_of, end_place, to_each, written}
+use Rattle.rules.specs.declared.Message.{Message}
+use Rattle.rules.specs.Messages.{saying, side_tag, two_bytes, matrix_bytes, four_bytes, tag_of, body_of, framed, bytes_of, end_place, to_each, written}
 use Rattle.rules.specs.Laws.RoundTrip.{SetUpFits}
 use Rattle.rules.proofs.Laws.Lengths.{length_message_le}
 use Rattle.message_writing.specs.Written.{head_bytes, opening_bytes, Puts, Writes, CanSend}
@@ -36,6 +39,13 @@ module _ {at v w p q : ℕ} {a b l l₁ l₂ : List ℕ} where
         width = omega (arith, g.width);
         stored = g.stored ∙ ap (λ (t : List ℕ). sets t p b) h.stored ∙ sets_then l at p a b (omega arith);
       }
+
+-- two bytes copied over a part are put there
+pub puts_copied : (at x y : ℕ) (l part : List ℕ) → at + 2 ≤ length l → part ≡ x ∷ y ∷ []
+    → Puts at 2 (x ∷ y ∷ []) l (put_mid at (at + 2 - at) l part) (at + 2)
+puts_copied at x y l part room e =
+    let width : at + 2 - at ≡ 2 = omega arith in
+    record { place = refl; width = refl; stored = rw (e, width, sets-eq (x ∷ y ∷ []) l at room, append_assoc, drop-drop) }
 
 -- none of the runs of a loop
 puts_none : (f : ℕ → List ℕ) (at : ℕ) (l : List ℕ) → Puts at 0 (gather 0 f) l l at

@@ -1,21 +1,18 @@
--- What a writer's contract names beside the definitions of `rules`: a header, a row, what a message with a matrix begins with,
+-- What a writer's contract names beside the definitions of `rules`: a header, what a message with a matrix begins with,
 -- what goes to box j of a list that has a place for each box; and what a writer asks and leaves.
 -- Assumes nothing.
 use Rattle.std.specs.Prelude.{List, [], ◌∷◌, ◌++◌, ◌≡◌, ℕ, ◌+◌, ◌-◌, ◌*◌, ◌≤◌, length, get_or}
 use Rattle.std.proofs.lemmas.List.Edits.{sets}
-use Rattle.folds.specs.Runs.{gather}
+use denote.MutBor.{MutBor}
 use Rattle.rules.specs.declared.Element.{Element}
 use Rattle.rules.specs.declared.Polynomials.{Polynomials}
 use Rattle.rules.specs.declared.SetUp.{SetUp}
-use Rattle.rules.specs.Numbers.{element}
-use Rattle.rules.specs.Messages.{two_bytes, matrix_bytes, written}
+use Rattle.rules.specs.declared.Message.{Message}
+use Rattle.rules.specs.Messages.{two_bytes, matrix_bytes, bytes_of, written}
 use Rattle.rules.specs.Laws.RoundTrip.{SetUpFits}
 
 unfoldable pub head_bytes : SetUp → ℕ → ℕ → List ℕ
 head_bytes u tag size = tag ∷ two_bytes size ++ u.d ∷ two_bytes u.session
-
-unfoldable pub row_bytes : ℕ → List Element → List ℕ
-row_bytes k row = gather k (λ l. two_bytes (get_or row l (element 0)).0)
 
 -- the header, k and the matrix, before an end of so many bytes
 unfoldable pub opening_bytes : SetUp → ℕ → ℕ → List (List Element) → List ℕ
@@ -37,6 +34,10 @@ pub record Puts (at w : ℕ) (bytes out₀ out : List ℕ) (next : ℕ) : Type 0
 pub record Writes (bytes out₀ out : List ℕ) (count : ℕ) : Type 0 where
   pub counted : count ≡ length bytes
   pub front : out ≡ written bytes out₀
+
+-- a closure, by what its calls leave true (`post`), writes message g j at the front of what it is lent, when it is called with j
+abbrev pub EachWrites : SetUp → (ℕ → Message) → (MutBor (List ℕ) → ℕ → ℕ → MutBor (List ℕ) → Type 0) → Type 0
+EachWrites u g post = (lent : _) (j count : ℕ) (back : _) → post lent j count back → Writes (bytes_of u (g j)) lent.now back.now count
 
 -- the set-up numbers have room in a message, and a message to each box has in the lent buffer
 pub record CanSend (u : SetUp) (out : List ℕ) : Type 0 where

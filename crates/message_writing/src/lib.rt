@@ -3,13 +3,16 @@
 // their values. One that writes to every box writes n messages, each directly behind the one before.
 #![tactic(auto)]
 
-ghost use Rattle.std.specs.Prelude.{[], ◌∷◌, ◌++◌, ◌+◌, ◌*◌, ◌<◌, ◌≤◌, length};
-ghost use Rattle.rules.specs.Messages.{two_bytes, matrix_bytes, coefficient_bytes, polynomial_bytes, send, saying, recovery, bytes_of, end_place, to_each};
+ghost use Rattle.std.specs.Prelude.{[], ◌∷◌, ◌++◌, ℕ, ◌+◌, ◌-◌, ◌*◌, ◌<◌, ◌≤◌, length, get_or};
+ghost use Rattle.folds.specs.Runs.{gather};
+ghost use Rattle.rules.specs.declared.Message.{Message};
+ghost use Rattle.rules.specs.declared.Message.TheVariants.{Send as send, Recovery as recovery};
+ghost use Rattle.rules.specs.Messages.{two_bytes, matrix_bytes, polynomial_bytes, saying, bytes_of, end_place, to_each};
 ghost use Rattle.rules.specs.Matrices.{zero_four};
 ghost use Rattle.rules.specs.Laws.RoundTrip.{SetUpFits};
-ghost use Rattle.message_writing.specs.Written.{head_bytes, row_bytes, opening_bytes, to_box, no_polynomials, Puts, Writes, CanSend};
+ghost use Rattle.message_writing.specs.Written.{head_bytes, opening_bytes, to_box, no_polynomials, Puts, Writes, EachWrites, CanSend};
 
-use rules::{Element, Exponent, Four, Pair, Polynomials, SetUp, Side};
+use rules::{Element, Exponent, Four, Number, Pair, Polynomials, SetUp, Side};
 
 fn put_byte(out: &mut [u8], at: usize, x: u8) -> usize
     requires { at < length out.old }
@@ -20,58 +23,38 @@ fn put_byte(out: &mut [u8], at: usize, x: u8) -> usize
 }
 
 // A number, high byte first.
+#[tactic(auto, using(crate::specs::Laws::puts_copied), unfolding(rules::specs::Messages::two_bytes))]
 fn put_number(out: &mut [u8], at: usize, x: u16) -> usize
     requires { at + 2 ≤ length out.old }
     ensures { Puts at 2 (two_bytes x) out.old out.new result }
 {
-    out[at] = (x / 256 % 256) as u8;
-    out[at + 1] = (x % 256) as u8;
+    out[at..at + 2].copy_from_slice(&x.to_be_bytes());
     at + 2
 }
 
 // ---- parts of a message
 
-// The first k entries of a row.
-fn put_elements(out: &mut [u8], at: usize, row: [Element; 8], k: usize) -> usize
+// The first k numbers of a row.
+fn put_row<T: Number>(out: &mut [u8], at: usize, row: [T; 8], k: usize) -> usize
     requires { (k ≤ 8) × (at + 2 * k ≤ length out.old) }
-    ensures { Puts at (k * 2) (row_bytes k row) out.old out.new result }
+    ensures { Puts at (k * 2) (gather k (λ l. two_bytes (T.value (get_or row l (T.wrap 0))))) out.old out.new result }
 {
-    let mut l: usize = 0;
     let mut next = at;
-    while l < k {
-        let x = row[l];
-        next = put_number(out, next, x.0);
-        l += 1;
-    }
-    next
-}
-
-// The first k coefficients of a polynomial.
-fn put_exponents(out: &mut [u8], at: usize, a: [Exponent; 8], k: usize) -> usize
-    requires { (k ≤ 8) × (at + 2 * k ≤ length out.old) }
-    ensures { Puts at (k * 2) (coefficient_bytes k a) out.old out.new result }
-{
-    let mut l: usize = 0;
-    let mut next = at;
-    while l < k {
-        let x = a[l];
-        next = put_number(out, next, x.0);
-        l += 1;
+    for x in &row[..k] {
+        next = put_number(out, next, x.get());
     }
     next
 }
 
 // The first k rows of a matrix.
+#[tactic(auto, using(crate::specs::Laws::put_all), unfolding(rules::specs::Messages::matrix_bytes))]
 fn put_matrix(out: &mut [u8], at: usize, c: [[Element; 8]; 8], k: usize) -> usize
     requires { (k ≤ 8) × (at + 2 * (k * k) ≤ length out.old) }
     ensures { Puts at (k * (k * 2)) (matrix_bytes k c) out.old out.new result }
 {
-    let mut j: usize = 0;
     let mut next = at;
-    while j < k {
-        let row = c[j];
-        next = put_elements(out, next, row, k);
-        j += 1;
+    for row in &c[..k] {
+        next = put_row(out, next, *row, k);
     }
     next
 }
@@ -81,17 +64,14 @@ fn put_polynomials(out: &mut [u8], at: usize, u: SetUp, all: Polynomials) -> usi
     ensures { Puts at (8 * u.k) (polynomial_bytes u all) out.old out.new result }
 {
     let k = u.k as usize;
-    let a = all.a;
-    let a2 = all.a2;
-    let b = all.b;
-    let b2 = all.b2;
-    let second = put_exponents(out, at, a, k);
-    let third = put_exponents(out, second, a2, k);
-    let fourth = put_exponents(out, third, b, k);
-    put_exponents(out, fourth, b2, k)
+    let second = put_row(out, at, all.a, k);
+    let third = put_row(out, second, all.a2, k);
+    let fourth = put_row(out, third, all.b, k);
+    put_row(out, fourth, all.b2, k)
 }
 
 // Two numbers, one behind the other.
+#[tactic(auto, using(crate::specs::Laws::puts_then), unfolding(rules::specs::Messages::two_bytes))]
 fn put_two(out: &mut [u8], at: usize, first: Exponent, second: Exponent) -> usize
     requires { at + 4 ≤ length out.old }
     ensures { Puts at 4 (two_bytes first.0 ++ two_bytes second.0) out.old out.new result }
@@ -101,6 +81,7 @@ fn put_two(out: &mut [u8], at: usize, first: Exponent, second: Exponent) -> usiz
 }
 
 // Tag, size of the rest, dealer, session.
+#[tactic(auto, using(crate::specs::Laws::puts_then), unfolding(crate::specs::Written::head_bytes, rules::specs::Messages::two_bytes))]
 fn put_head(out: &mut [u8], u: SetUp, tag: u8, size: u16) -> usize
     requires { SetUpFits u × (6 ≤ length out.old) }
     ensures { Puts 0 6 (head_bytes u tag size) out.old out.new result }
@@ -117,7 +98,7 @@ fn put_opening(out: &mut [u8], u: SetUp, tag: u8, end: u8, c: [[Element; 8]; 8])
     ensures { Puts 0 (end_place u) (opening_bytes u tag end c) out.old out.new result × (result ≤ 135) }
 {
     let k = u.k as usize;
-    let size = 4 + 2 * (k * k) + end as usize;
+    let size = 4 + 2 * (k * k) + usize::from(end);
     let second = put_head(out, u, tag, size as u16);
     let third = put_byte(out, second, u.k as u8);
     put_matrix(out, third, c, k)
@@ -152,20 +133,26 @@ fn write_share(out: &mut [u8], u: SetUp, pair: Pair) -> usize
 
 // ---- to each box
 
+// What `write` writes for each box, one directly behind the other; box 1 is 0 to it. It gets the tail of the buffer.
+fn write_each<F: Fn(&mut [u8], usize) -> usize>(out: &mut [u8], u: SetUp, write: F) -> usize
+    requires can { CanSend u out.old }
+    requires may { (b : _) (j : ℕ) → j < u.n → 199 ≤ length b.now → F.pre write b j }
+    requires short { (b : _) (j r : ℕ) (b' : _) → F.post write b j r b' → r ≤ 199 }
+    ensures { (g : ℕ → Message) → EachWrites u g (F.post write) → Writes (to_each u (λ i. g (i - 1))) out.old out.new result }
+{
+    let mut at: usize = 0;
+    for j in 0..u.n as usize {
+        at += write(&mut out[at..], j);
+    }
+    at
+}
+
 // A send to each box, with its polynomials; box 1's stand at 0.
 pub fn write_sends(out: &mut [u8], u: SetUp, c: [[Element; 8]; 8], all: [Polynomials; 10]) -> usize
     requires { CanSend u out.old }
     ensures { Writes (to_each u (λ j. send c (to_box all no_polynomials j))) out.old out.new result }
 {
-    let n = u.n as usize;
-    let mut at: usize = 0;
-    let mut j: usize = 0;
-    while j < n {
-        let mine = all[j];
-        at += write_send(&mut out[at..], u, c, mine);
-        j += 1;
-    }
-    at
+    write_each(out, u, |tail, j| write_send(tail, u, c, all[j]))
 }
 
 // An echo or a ready to each box, with its point; box 1's stands at 0.
@@ -179,15 +166,7 @@ pub fn write_points(
     requires { CanSend u out.old }
     ensures { Writes (to_each u (λ j. saying side c (to_box fours zero_four j))) out.old out.new result }
 {
-    let n = u.n as usize;
-    let mut at: usize = 0;
-    let mut j: usize = 0;
-    while j < n {
-        let four = fours[j];
-        at += write_point(&mut out[at..], u, side, c, four);
-        j += 1;
-    }
-    at
+    write_each(out, u, |tail, j| write_point(tail, u, side, c, fours[j]))
 }
 
 // The same recovery share to each box.
@@ -195,12 +174,5 @@ pub fn write_shares(out: &mut [u8], u: SetUp, pair: Pair) -> usize
     requires { CanSend u out.old }
     ensures { Writes (to_each u (λ j. recovery pair)) out.old out.new result }
 {
-    let n = u.n as usize;
-    let mut at: usize = 0;
-    let mut j: usize = 0;
-    while j < n {
-        at += write_share(&mut out[at..], u, pair);
-        j += 1;
-    }
-    at
+    write_each(out, u, |tail, _| write_share(tail, u, pair))
 }

@@ -1,3 +1,3 @@
--- What the proofs of several functions use: the arrays of a list of points, and the values that points give.
+-- What the proofs of several functions use: the array of a list of points, and the values that points give.
 mod Lists
 mod Values

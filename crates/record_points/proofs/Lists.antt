@@ -1,7 +1,8 @@
--- The arrays of a list of points: what one more adds, a turn of the loop that collects them, the list that they say, and the sides of
+-- The array of a list of points: what one more adds, a turn of the loop that collects them, the list that they say, and the sides of
 -- places.
 -- Assumes nothing.
 use mathlib.Core.Bool.{Bool, true, false}
+use Rattle.record_points.specs.declared.points.Drawn.{Drawn}
 use mathlib.Core.List.{List, [], ◌∷◌, ◌++◌, map, map-map, append-nil}
 use mathlib.Core.Path.{◌≡◌, refl, ap, sym, ◌∙◌}
 use Prim.Native.Nat.{ℕ, ◌+◌, ◌≤◌, ◌<◌}
@@ -21,8 +22,8 @@ use Rattle.rules.specs.declared.Point.TheVariants.{Silent, Held}
 use Rattle.rules.specs.Numbers.{exponent}
 use Rattle.rules.specs.Record.{silent, share_at}
 use Rattle.rules.specs.Steps.{Said, held_at, points, kept_at, share_points}
-use Rattle.interpolation.specs.Points.{nobody, said_at, said_by}
-use Rattle.record_points.specs.Points.{in_array, in_array_at, points_of, with_point, kept_point, considered, side_held, side_kept, side_point, side_points}
+use Rattle.interpolation.specs.Points.{nobody, boxes_of, said_at, said_by}
+use Rattle.record_points.specs.Points.{in_array, in_array_at, points_of, boxes_in, firsts_in, seconds_in, with_point, kept_point, considered, side_held, side_kept, side_point, side_points}
 
 -- ---- one more point
 
@@ -52,32 +53,35 @@ considered_more k m ps keep = go (leb k (length (take k ps))) refl keep
     go true e (Some s) = rw (take_more k ps, e)
     go false e (Some s) = rw (take_more k ps, e) (sym (points_of_more (take k ps) (record { box = m + 1; says = s })))
 
--- ---- the list that the arrays say
+-- ---- the list that the array says
 
--- The arrays of a list say the list.
+-- The array of a list says the list.
+at : (ps : List (Said Pair)) → length ps ≤ 8 → (i : ℕ) → i < length ps → said_at (points_of ps) i ≡ get_or ps i nobody
+at ps h i l =
+    rw (
+      boxes_in ps,
+      firsts_in ps,
+      seconds_in ps,
+      in_array_at 0 (λ (p : Said Pair). p.box) ps h i l,
+      in_array_at (exponent 0) (λ (p : Said Pair). p.says.first) ps h i l,
+      in_array_at (exponent 0) (λ (p : Said Pair). p.says.second) ps h i l,
+      get_or-map (λ (p : Said Pair). p.box) ps i nobody,
+      get_or-map (λ (p : Said Pair). p.says.first) ps i nobody,
+      get_or-map (λ (p : Said Pair). p.says.second) ps i nobody,
+    )
+
 pub said_of : (ps : List (Said Pair)) → length ps ≤ 8 → said_by (points_of ps) ≡ ps
 unfolding said_by points_of
 said_of ps h =
     let whole = length_singles (length ps) (said_at (points_of ps)) in
     ext_get_or nobody _ ps whole (λ i l.
     let lt : i < length ps = omega arith in
-    get_or_singles (length ps) (said_at (points_of ps)) i nobody lt ∙ at i lt)
-  where
-    at : (i : ℕ) → i < length ps → said_at (points_of ps) i ≡ get_or ps i nobody
-    at i l =
-        rw (
-          in_array_at 0 (λ (p : Said Pair). p.box) ps h i l,
-          in_array_at (exponent 0) (λ (p : Said Pair). p.says.first) ps h i l,
-          in_array_at (exponent 0) (λ (p : Said Pair). p.says.second) ps h i l,
-          get_or-map (λ (p : Said Pair). p.box) ps i nobody,
-          get_or-map (λ (p : Said Pair). p.says.first) ps i nobody,
-          get_or-map (λ (p : Said Pair). p.says.second) ps i nobody,
-        )
+    get_or_singles (length ps) (said_at (points_of ps)) i nobody lt ∙ at ps h i lt)
 
 -- ---- the sides of places
 
 -- The k lowest points of a side are that side of the k lowest points.
-pub side_points_lem : (a : Bool) (k : ℕ) (places : List Place) → take k (share_points (map (side_kept a) places)) ≡ side_points a (take k (points places))
+pub side_points_lem : (a : Drawn) (k : ℕ) (places : List Place) → take k (share_points (map (side_kept a) places)) ≡ side_points a (take k (points places))
 unfolding share_points points side_points
 side_points_lem a k places =
     ap (take k) (gather-same _ _ 10 (λ m l. at m) ∙ sym (map-gather (side_point a) (λ m. held_at m (get_or places m silent).point) 10))
@@ -91,10 +95,13 @@ side_points_lem a k places =
     at m = ap (λ (x : Option Pair). kept_at m x) (get_or-map (side_kept a) places m silent) ∙ held m (get_or places m silent).point
 
 -- Both sides stand at the same boxes.
-pub side_count : (a b : Bool) (ps : List (Said Four)) → (points_of (side_points a ps)).count ≡ (points_of (side_points b ps)).count
+pub side_count : (a b : Drawn) (ps : List (Said Four)) → (points_of (side_points a ps)).count ≡ (points_of (side_points b ps)).count
 unfolding points_of side_points
 side_count a b ps = simp length-map
 
-pub side_boxes : (a b : Bool) (ps : List (Said Four)) → (points_of (side_points a ps)).boxes ≡ (points_of (side_points b ps)).boxes
-unfolding points_of side_points in_array
-side_boxes a b ps = simp (length-map, map-map)
+same_boxes : (a b : Drawn) (ps : List (Said Four)) → in_array 0 (λ p. p.box) (side_points a ps) ≡ in_array 0 (λ p. p.box) (side_points b ps)
+unfolding side_points in_array
+same_boxes a b ps = simp (length-map, map-map)
+
+pub side_boxes : (a b : Drawn) (ps : List (Said Four)) → boxes_of (points_of (side_points a ps)) ≡ boxes_of (points_of (side_points b ps))
+side_boxes a b ps = boxes_in (side_points a ps) ∙ same_boxes a b ps ∙ sym (boxes_in (side_points b ps))

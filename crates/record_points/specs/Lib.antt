@@ -1,2 +1,2 @@
--- The points that are there, as arrays: what only this crate's contracts name.
+-- The points that are there, as an array: what only this crate's contracts name.
 pub mod Points

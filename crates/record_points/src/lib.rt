@@ -9,6 +9,8 @@ ghost use Rattle.rules.specs.Matrices.{to_boxes, zero_four};
 ghost use Rattle.rules.specs.Steps.{points, share_points, pair_from, ready_four, recovered_from};
 ghost use Rattle.record_points.specs.Points.{Lowest};
 
+use arithmetic::matrices::filled;
+use points::Drawn;
 use rules::{Exponent, Four, Pair, Place};
 
 // The pair to keep, and what goes to boxes 1 to n; box 1's stands at 0.
@@ -23,29 +25,26 @@ pub fn ready_from(q: u16, k: usize, n: usize, places: [Place; 10]) -> Ready
     requires { Lowest q k × (n ≤ 10) }
     ensures { (result.pair ≡ pair_from q (take k (points places))) × (result.fours ≡ to_boxes n zero_four (ready_four q (take k (points places)))) }
 {
-    let rows = points::points_held(places, k, true);
-    let columns = points::points_held(places, k, false);
+    let rows = points::points_held(places, k, Drawn::Rows);
+    let columns = points::points_held(places, k, Drawn::Columns);
     let inverse = interpolation::inverses(q, rows);
     let pair = interpolation::pair_at(q, rows, inverse, 0);
-    let none = Four {
+    let zero = Four {
         alpha: Exponent(0),
         alpha2: Exponent(0),
         beta: Exponent(0),
         beta2: Exponent(0),
     };
-    let mut fours = [none; 10];
-    let mut j: usize = 0;
-    let mut number: u16 = 1;
-    while j < n {
-        let four = interpolation::four_at(q, rows, columns, inverse, number);
-        fours[j] = four;
-        j += 1;
-        number += 1;
-    }
+    let fours = filled(
+        zero,
+        n,
+        |j| interpolation::four_at(q, rows, columns, inverse, j as u16 + 1),
+    );
     Ready { pair, fours }
 }
 
 // The pair that the recovery shares of the k lowest boxes give.
+#[tactic(auto, using(crate::proofs::Values::kept_fit, crate::proofs::Values::kept_said))]
 pub fn recovered_from(q: u16, k: usize, keeps: [Option<Pair>; 10]) -> Pair
     requires { Lowest q k }
     ensures { result ≡ recovered_from q (take k (share_points keeps)) }

@@ -18,7 +18,9 @@ use Rattle.rules.specs.declared.Record.{Record}
 use Rattle.rules.specs.declared.SetUp.{SetUp}
 use Rattle.rules.specs.declared.Slot.{Slot}
 use Rattle.rules.specs.Numbers.{group_keeps, numbers_keep}
-use Rattle.rules.specs.Messages.{Message, send, echo, bytes_of}
+use Rattle.rules.specs.declared.Message.{Message}
+use Rattle.rules.specs.declared.Message.TheVariants.{Send as send, Echo as echo}
+use Rattle.rules.specs.Messages.{bytes_of}
 use Rattle.rules.specs.Record.{no_marks, marked, zero_slot, count_e, new_record, sound}
 use Rattle.rules.specs.Answers.{Done, Delivers, deliver}
 use Rattle.rules.specs.Computed.{computed}

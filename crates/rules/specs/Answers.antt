@@ -13,7 +13,9 @@ use Rattle.rules.specs.declared.Sent.TheVariants.{Nothing}
 use Rattle.rules.specs.declared.Answer.{Answer}
 use Rattle.rules.specs.declared.Outcome.{Outcome}
 use Rattle.rules.specs.Numbers.{exponent, group_of, group_keeps, numbers_keep, is_box}
-use Rattle.rules.specs.Messages.{Message, send, echo, ready, recovery, tag_in, has_matrix, malformed, foreign, message_in, matrix_in, written}
+use Rattle.rules.specs.declared.Message.{Message}
+use Rattle.rules.specs.declared.Message.TheVariants.{Send as send, Echo as echo, Ready as ready, Recovery as recovery}
+use Rattle.rules.specs.Messages.{tag_in, has_matrix, malformed, foreign, message_in, matrix_in, written}
 use Rattle.rules.specs.Dealing.{coins_keep, matrix_passes, polynomials_below, four_below, pair_below, polynomial_check, point_check, share_check}
 use Rattle.rules.specs.Record.{group_in, slot_at, heard_for, matrix_of, new_record, zero_record, sound}
 use Rattle.rules.specs.Steps.{Step, heard, message_step, deal_step, recover_step, quiet}
@@ -21,26 +23,26 @@ use Rattle.rules.specs.Steps.{Step, heard, message_step, deal_step, recover_step
 -- ---- refusals and their order
 
 -- a row of the table: its number, whether it holds, and whether it marks the sender heard
-pub record Refusal : Type 0 where
+pub record Row : Type 0 where
   pub number : ℕ
   pub holds : Bool
   pub marks : Bool
 
 infix 70 ◌when◌
-abbrev pub ◌when◌ : ℕ → Bool → Refusal
+abbrev pub ◌when◌ : ℕ → Bool → Row
 n when b = record { number = n; holds = b; marks = false }
 
 -- the row that marks the sender heard exactly if m
-abbrev pub marking : Bool → Refusal → Refusal
+abbrev pub marking : Bool → Row → Row
 marking m x = record { number = x.number; holds = x.holds; marks = m }
 
 -- the first row that holds; where none does, 0: accepted
-unfoldable pub first_row : List Refusal → Refusal
+unfoldable pub first_row : List Row → Row
 first_row [] = 0 when true
 first_row (x ∷ xs) = pick x.holds x (first_row xs)
 
 -- its number
-abbrev pub first_of : List Refusal → ℕ
+abbrev pub first_of : List Row → ℕ
 first_of rows = (first_row rows).number
 
 -- ---- outcomes
@@ -92,7 +94,7 @@ answered n x after buffer = done (outcome_of n x after) (pick (eqb n 0) (written
 
 -- ---- set-up: "Order: set-up 11, 12."
 
-unfoldable pub set_up_rows : SetUp → List Refusal
+unfoldable pub set_up_rows : SetUp → List Row
 set_up_rows u =
     -- "group not 1 or 2"
     11 when not (group_keeps u)
@@ -115,14 +117,14 @@ abbrev pub too_short : ℕ → Bool
 too_short lent = ltb lent 2048
 
 -- the rows of every call on a record, with this many lent bytes: "15, 12"
-unfoldable pub call_rows : Record → ℕ → List Refusal
+unfoldable pub call_rows : Record → ℕ → List Row
 call_rows x lent =
     15 when too_short lent
     -- "the record is not sound"
     ∷ 12 when not (sound x)
     ∷ []
 
-unfoldable pub own_deal_rows : Record → ℕ → List ℕ → List Refusal
+unfoldable pub own_deal_rows : Record → ℕ → List ℕ → List Row
 own_deal_rows x secret coins =
     -- "deal by another box than d or a second time"
     13 when not (eqb x.setup.i x.setup.d) or x.progress.dealt
@@ -130,7 +132,7 @@ own_deal_rows x secret coins =
     ∷ 14 when not (coins_keep x.setup secret coins)
     ∷ []
 
-unfoldable pub deal_rows : Record → ℕ → List ℕ → ℕ → List Refusal
+unfoldable pub deal_rows : Record → ℕ → List ℕ → ℕ → List Row
 deal_rows x secret coins lent = call_rows x lent ++ own_deal_rows x secret coins
 
 unfoldable pub deal : Record → ℕ → List ℕ → List ℕ → Done
@@ -140,13 +142,13 @@ deal x secret coins buffer = answered (first_of (deal_rows x secret coins (lengt
 abbrev pub Deals : Record → ℕ → List ℕ → List ℕ → Outcome → List ℕ → Type 0
 Deals x secret coins buffer o buffer' = done o buffer' ≡ deal x secret coins buffer
 
-unfoldable pub own_recover_rows : Record → List Refusal
+unfoldable pub own_recover_rows : Record → List Row
 own_recover_rows x =
     -- "recovery command before completion or a second time"
     13 when not (is_some x.progress.completion) or x.progress.commanded
     ∷ []
 
-unfoldable pub recover_rows : Record → ℕ → List Refusal
+unfoldable pub recover_rows : Record → ℕ → List Row
 recover_rows x lent = call_rows x lent ++ own_recover_rows x
 
 unfoldable pub recover : Record → List ℕ → Done
@@ -177,7 +179,7 @@ checks x m (ready C f) = point_check (group_in x) x.setup.k C x.setup.i m f
 checks x m (recovery s) = share_checks x x.progress.completion m s
 
 -- whether the message is one for this box: 1 to 3
-unfoldable pub form_rows : SetUp → ℕ → List ℕ → List Refusal
+unfoldable pub form_rows : SetUp → ℕ → List ℕ → List Row
 form_rows u sender bytes =
     -- "sender is 0 or above n"
     1 when not (is_box u sender)
@@ -186,7 +188,7 @@ form_rows u sender bytes =
     ∷ []
 
 -- whether its sender may say it now: 4 to 7
-unfoldable pub turn_rows : Record → ℕ → List ℕ → List Refusal
+unfoldable pub turn_rows : Record → ℕ → List ℕ → List Row
 turn_rows x sender bytes =
     -- "a send from a box other than d"
     4 when eqb (tag_in bytes) 1 and not (eqb sender x.setup.d)
@@ -199,7 +201,7 @@ turn_rows x sender bytes =
     ∷ []
 
 -- what it says: 8 to 10
-abbrev pub hearing_tests : Record → ℕ → List ℕ → List Refusal
+abbrev pub hearing_tests : Record → ℕ → List ℕ → List Row
 hearing_tests x sender bytes =
     -- "a matrix entry e is 0, ≥ p, or e^q is not 1"
     8 when has_matrix (tag_in bytes) and not (matrix_passes (group_in x) x.setup.k (matrix_in x.setup bytes))
@@ -211,14 +213,14 @@ hearing_tests x sender bytes =
 
 -- "All refusals leave the record as it came, except that 8, 9 and 10 on tags 1, 2, 3 mark that sender heard for that tag: only
 -- the first one gets a hearing."
-unfoldable pub hearing_rows : Record → ℕ → List ℕ → List Refusal
+unfoldable pub hearing_rows : Record → ℕ → List ℕ → List Row
 hearing_rows x sender bytes = map (marking (has_matrix (tag_in bytes))) (hearing_tests x sender bytes)
 
 -- those before the hearing mark nobody
-unfoldable pub early_rows : Record → ℕ → List ℕ → ℕ → List Refusal
+unfoldable pub early_rows : Record → ℕ → List ℕ → ℕ → List Row
 early_rows x sender bytes lent = call_rows x lent ++ (form_rows x.setup sender bytes ++ turn_rows x sender bytes)
 
-unfoldable pub deliver_rows : Record → ℕ → List ℕ → ℕ → List Refusal
+unfoldable pub deliver_rows : Record → ℕ → List ℕ → ℕ → List Row
 deliver_rows x sender bytes lent = early_rows x sender bytes lent ++ hearing_rows x sender bytes
 
 -- the record after a refusal, by whether its row marks the sender heard

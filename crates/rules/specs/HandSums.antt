@@ -13,7 +13,8 @@ use Rattle.rules.specs.declared.Side.TheVariants.{ByEcho}
 use Rattle.rules.specs.declared.Slot.{Slot}
 use Rattle.rules.specs.Numbers.{exponent, element, group_of, echo_quorum}
 use Rattle.rules.specs.Matrices.{matrix, entry, α}
-use Rattle.rules.specs.Messages.{send, bytes_of}
+use Rattle.rules.specs.declared.Message.TheVariants.{Send as send}
+use Rattle.rules.specs.Messages.{bytes_of}
 use Rattle.rules.specs.Dealing.{f_of, f'_of, committed, commitment, polynomials_of, value_at, point_check, share_check}
 use Rattle.rules.specs.Record.{nothing, new_record, zero_slot}
 use Rattle.rules.specs.Steps.{with_shares, share_points, through, echo_four, pair_from, recovered_from, lowest, opened, taken, sharing}

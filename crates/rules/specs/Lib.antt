@@ -9,6 +9,7 @@ pub mod Dealing
 pub mod Record
 pub mod Steps
 pub mod Answers
+pub mod Refusals
 pub mod Text
 pub mod Sheet
 pub mod Computed

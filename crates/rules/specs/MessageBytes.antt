@@ -8,7 +8,9 @@ use Rattle.rules.specs.declared.Element.{Element}
 use Rattle.rules.specs.declared.SetUp.{SetUp}
 use Rattle.rules.specs.Numbers.{element, group_of}
 use Rattle.rules.specs.Matrices.{matrix}
-use Rattle.rules.specs.Messages.{Message, send, echo, ready, recovery, bytes_of, to_each, whole_length, written, message_in}
+use Rattle.rules.specs.declared.Message.{Message}
+use Rattle.rules.specs.declared.Message.TheVariants.{Send as send, Echo as echo, Ready as ready, Recovery as recovery}
+use Rattle.rules.specs.Messages.{bytes_of, to_each, whole_length, written, message_in}
 use Rattle.rules.specs.Dealing.{f_of, f'_of, commitment, polynomials_of}
 use Rattle.rules.specs.Computed.{computed}
 use Rattle.rules.specs.HandSums.{class, coins, sized, four, pair, C, dealt}

@@ -11,17 +11,12 @@ use Rattle.rules.specs.declared.Four.{Four}
 use Rattle.rules.specs.declared.Pair.{Pair}
 use Rattle.rules.specs.declared.Polynomials.{Polynomials}
 use Rattle.rules.specs.declared.SetUp.{SetUp}
+use Rattle.rules.specs.declared.Message.{Message}
+use Rattle.rules.specs.declared.Message.TheVariants.{Send as send, Echo as echo, Ready as ready, Recovery as recovery}
 use Rattle.rules.specs.declared.Side.{Side}
 use Rattle.rules.specs.declared.Side.TheVariants.{ByEcho, ByReady}
 use Rattle.rules.specs.Numbers.{exponent, element}
 use Rattle.rules.specs.Matrices.{row, matrix, entry, coefficient, α, α', β, β'}
-
--- what a message says behind its dealer and session
-pub data Message : Type 0 where
-  send : List (List Element) → Polynomials → Message
-  echo : List (List Element) → Four → Message
-  ready : List (List Element) → Four → Message
-  recovery : Pair → Message
 
 -- an echo or a ready, and its tag
 abbrev pub saying : Side → List (List Element) → Four → Message

@@ -26,7 +26,9 @@ use Rattle.rules.specs.declared.Sent.{Sent}
 use Rattle.rules.specs.declared.Sent.TheVariants.{Nothing, Send, Echo, Ready, Recovery}
 use Rattle.rules.specs.Numbers.{exponent, echo_quorum}
 use Rattle.rules.specs.Matrices.{α, α', β, β'}
-use Rattle.rules.specs.Messages.{Message, send, echo, ready, recovery, to_each}
+use Rattle.rules.specs.declared.Message.{Message}
+use Rattle.rules.specs.declared.Message.TheVariants.{Send as send, Echo as echo, Ready as ready, Recovery as recovery}
+use Rattle.rules.specs.Messages.{to_each}
 use Rattle.rules.specs.Dealing.{value_at, f_of, f'_of, commitment, polynomials_of}
 use Rattle.rules.specs.Record.{silent, no_marks, group_in, slot_at, place_at, share_at, matrix_of, same_matrix, shares_kept, zero_slot, count_e, count_r}
 

@@ -1,9 +1,10 @@
 // Document 01's declared types and constants. What every call answers, leaves and writes is defined over them in specs/.
 #![tactic(auto)]
 
-ghost use Rattle.std.specs.Prelude.{◌≡◌, ◌<◌, ◌≤◌, get_or};
-ghost use Rattle.rules.specs.Numbers.{groups, no_group, echo_quorum};
+ghost use Rattle.std.specs.Prelude.{◌≡◌, ℕ, ◌<◌, ◌≤◌, get_or};
+ghost use Rattle.rules.specs.Numbers.{exponent, element, groups, no_group, echo_quorum};
 ghost use Rattle.rules.specs.Messages.{side_tag};
+ghost use Rattle.rules.specs.Refusals.{refusal_number};
 
 // ---- Numbers
 
@@ -14,6 +15,47 @@ pub struct Exponent(pub u16);
 // A group element counts modulo p.
 #[derive(Clone, Copy, PartialEq, Eq)]
 pub struct Element(pub u16);
+
+// A two-byte number of either kind: what reading and writing do alike to an exponent and an element.
+pub trait Number: Copy {
+    ghost wrap: { ℕ → Self };
+
+    ghost value: { Self → ℕ };
+
+    fn new(x: u16) -> Self
+        ensures { result ≡ wrap x };
+
+    fn get(self) -> u16
+        ensures { result ≡ value self };
+}
+
+impl Number for Exponent {
+    ghost wrap = { exponent };
+
+    ghost value = { λ e. e.0 };
+
+    fn new(x: u16) -> Exponent {
+        Exponent(x)
+    }
+
+    fn get(self) -> u16 {
+        self.0
+    }
+}
+
+impl Number for Element {
+    ghost wrap = { element };
+
+    ghost value = { λ e. e.0 };
+
+    fn new(x: u16) -> Element {
+        Element(x)
+    }
+
+    fn get(self) -> u16 {
+        self.0
+    }
+}
 
 // A row of the table of groups.
 #[derive(Clone, Copy)]
@@ -115,6 +157,15 @@ pub struct Pair {
     pub second: Exponent,
 }
 
+// What a message says behind its dealer and session.
+#[derive(Clone, Copy)]
+pub enum Message {
+    Send([[Element; 8]; 8], Polynomials),
+    Echo([[Element; 8]; 8], Four),
+    Ready([[Element; 8]; 8], Four),
+    Recovery(Pair),
+}
+
 // ---- The record
 
 // A place for a sender is silent or holds the four numbers.
@@ -190,6 +241,67 @@ pub struct Record {
 
 // ---- Answers
 
+// Why a call is refused: a row of document 01's table each, in its order.
+#[derive(Clone, Copy, PartialEq, Eq)]
+pub enum Refusal {
+    // "sender is 0 or above n"
+    NoBox,
+    // "shorter than 3 bytes, tag not 1..4, size field not the bytes that follow, whole length not that of the tag at
+    // this k, or k byte not k"
+    Malformed,
+    // "dealer or session is another"
+    Foreign,
+    // "a send from a box other than d"
+    NotTheDealer,
+    // "recovery share before this box has completed and been commanded"
+    ShareEarly,
+    // "recovery share after the pair was given"
+    ShareLate,
+    // "sender already heard for this tag"
+    AlreadyHeard,
+    // "a matrix entry e is 0, ≥ p, or e^q is not 1"
+    MatrixEntry,
+    // "an exponent ≥ q"
+    ExponentHigh,
+    // "the check of its kind fails"
+    CheckFails,
+    // "set-up: group not 1 or 2"
+    NoGroup,
+    // "set-up: n, t, k, i, d or the session breaks its rule; any other call: the record is not sound"
+    RuleBroken,
+    // "deal by another box than d or a second time; recovery command before completion or a second time"
+    OutOfTurn,
+    // "secret ≥ q, coins not 2k² - 1 in number, or a coin ≥ q"
+    SecretOrCoins,
+    // "outgoing buffer under 2,048 bytes"
+    BufferShort,
+}
+
+impl Refusal {
+    // Its number in the table.
+    pub fn number(self) -> u8
+        ensures { result ≡ refusal_number self }
+    {
+        match self {
+            Refusal::NoBox => 1,
+            Refusal::Malformed => 2,
+            Refusal::Foreign => 3,
+            Refusal::NotTheDealer => 4,
+            Refusal::ShareEarly => 5,
+            Refusal::ShareLate => 6,
+            Refusal::AlreadyHeard => 7,
+            Refusal::MatrixEntry => 8,
+            Refusal::ExponentHigh => 9,
+            Refusal::CheckFails => 10,
+            Refusal::NoGroup => 11,
+            Refusal::RuleBroken => 12,
+            Refusal::OutOfTurn => 13,
+            Refusal::SecretOrCoins => 14,
+            Refusal::BufferShort => 15,
+        }
+    }
+}
+
 // What an accepted call has sent.
 #[derive(Clone, Copy)]
 pub enum Sent {
@@ -200,7 +312,8 @@ pub enum Sent {
     Recovery,
 }
 
-// The answer number; the rest is zero unless the number is 0.
+// The answer number; the rest is zero unless the number is 0. The fields are document 01's own list, which theorems name: so the
+// number is a number, and whether a pair was recovered stands beside the pair.
 #[derive(Clone, Copy)]
 pub struct Answer {
     pub no: u8,

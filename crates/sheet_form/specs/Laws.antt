@@ -1,6 +1,6 @@
 -- Laws that the proofs of the readers share: the tests of a sheet, once they pass; where its lines stand.
 -- Assumes nothing.
-use Rattle.std.specs.Prelude.{Bool, true, false, List, ◌≡◌, ℕ, ◌+◌, ◌*◌, ◌<◌, ◌≤◌, eqb, leb, length, get_or}
+use Rattle.std.specs.Prelude.{Bool, true, false, List, ◌≡◌, ℕ, ◌+◌, ◌*◌, ◌<◌, ◌≤◌, eqb, leb, length, get_or, Some, None}
 use Rattle.std.proofs.Math.Path.{refl}
 use Rattle.std.proofs.Common.{ap, ◌∙◌, add-one, arith, eq-eqb, ne_eqb}
 use Rattle.folds.specs.Tests.{◌and◌, ◌or◌, pick, and_left, and_right, true≢false}
@@ -8,7 +8,7 @@ use Rattle.folds.specs.Below.{all_below, all_below_at}
 use Rattle.rules.specs.Text.{text, space, byte_at, word_at, digits_end, decimal_at, is_decimal, numbers_at}
 use Rattle.rules.specs.Sheet.{matrix_place, boxes_place, says_place, is_silent, next_line, line_place, first_line_keeps, box_line_keeps, rest_keeps}
 use Rattle.text.specs.declared.read.Decimal.{Decimal}
-use Rattle.text.specs.Decimals.{decimal_in, byte_within}
+use Rattle.text.specs.Decimals.{decimal_in, some_decimal, none_decimal, byte_within}
 use Rattle.sheet_form.specs.Reading.{Entries, Whole}
 
 -- ---- the tests of a sheet, once they pass
@@ -37,30 +37,27 @@ box_line_lem b i m h =
     other true y e f = absurd (true≢false f)
     other false y e f = e
 
--- the test of it, from the number that was read
-line_guard : (t : Bool) (x y : ℕ) (r : Bool) → t and eqb x y and r ≡ (t and eqb (pick t x 0) y and r)
-line_guard true x y r = refl
-line_guard false x y r = refl
+-- the test of it: no number is read, or d is
+module _ (b : List ℕ) (i m : ℕ) where
+  pub no_number : None ≡ decimal_in b i → box_line_keeps b i m ≡ false
+  unfolding box_line_keeps
+  no_number h = rw (none_decimal b i h)
 
-module _ (b : List ℕ) (i m : ℕ) {d : Decimal} (read : d ≡ decimal_in b i) where
-  line_read : box_line_keeps b i m
-      ≡ (d.stands and eqb d.number (m + 1) and byte_at b d.end space and (word_at b (d.end + 1) (text "silent\n") or numbers_at b (d.end + 1) 2))
-  unfolding box_line_keeps decimal_in
-  line_read = rw read (line_guard (is_decimal b i) (decimal_at b i) (m + 1) _)
+  module _ {d : Decimal} (read : Some d ≡ decimal_in b i) where
+    line_read : box_line_keeps b i m
+        ≡ (eqb d.number (m + 1) and byte_at b d.end space and (word_at b (d.end + 1) (text "silent\n") or numbers_at b (d.end + 1) 2))
+    unfolding box_line_keeps
+    line_read = let r = some_decimal b i read in rw (r.stands, ← r.number, ← r.end)
 
-  pub no_number : d.stands ≡ false → box_line_keeps b i m ≡ false
-  no_number s = rw (line_read, s)
-
-  module _ (s : d.stands ≡ true) where
     pub other_number : (d.number ≡ m + 1 → ⊥) → box_line_keeps b i m ≡ false
-    other_number n = rw (line_read, s, ne_eqb d.number (m + 1) n)
+    other_number n = rw (line_read, ne_eqb d.number (m + 1) n)
 
     pub no_space : d.number ≡ m + 1 → byte_at b d.end space ≡ false → box_line_keeps b i m ≡ false
-    no_space n e = rw (line_read, s, eq-eqb d.number (m + 1) n, e)
+    no_space n e = rw (line_read, eq-eqb d.number (m + 1) n, e)
 
     pub then_says : d.number ≡ m + 1 → byte_at b d.end space ≡ true
         → box_line_keeps b i m ≡ (word_at b (d.end + 1) (text "silent\n") or numbers_at b (d.end + 1) 2)
-    then_says n e = rw (line_read, s, eq-eqb d.number (m + 1) n, e)
+    then_says n e = rw (line_read, eq-eqb d.number (m + 1) n, e)
 
 -- "silent" and its newline stand within the text
 pub silent_within : (b : List ℕ) (i : ℕ) → is_silent b i ≡ true → says_place b i + 7 ≤ length b

@@ -52,10 +52,9 @@ fn box_line_keeps(b: &[u8], i: usize, m: usize) -> bool
     requires { m < 10 }
     ensures { result ≡ box_line_keeps b.now i m }
 {
-    let x = text::read::decimal_at(b, i);
-    if !x.stands {
+    let Some(x) = text::read::decimal_at(b, i) else {
         return false;
-    }
+    };
     if x.number as usize != m + 1 {
         return false;
     }

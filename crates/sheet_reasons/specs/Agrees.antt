@@ -2,7 +2,7 @@
 --
 -- In order: no reason of a line is without words; what is said of a bad sheet; that nothing is said of any other.
 -- Assumes nothing.
-use Rattle.std.specs.Prelude.{Bool, not, ◌≡◌, ℕ, ◌+◌, ◌*◌, ◌<◌, eqb, leb, ltb, length}
+use Rattle.std.specs.Prelude.{Bool, not, ◌≡◌, ℕ, ◌+◌, ◌*◌, ◌<◌, eqb, leb, ltb, length, Option, Some, None}
 use Rattle.std.proofs.Math.Bool.{true, false}
 use mathlib.Core.List.{List, [], ◌++◌}
 use Rattle.std.proofs.Math.Path.{refl}
@@ -13,10 +13,10 @@ use Rattle.rules.specs.Numbers.{group_keeps, sizes_keep}
 use Rattle.rules.specs.Text.{text, word_at, digits_end, decimal}
 use Rattle.rules.specs.Sheet.{sheet_set_up, first_line_keeps, rest_keeps, body_printed, printed}
 use Rattle.sheet_reasons.specs.Lines.{line_end, line_start, in_line, spaces_in}
-use Rattle.sheet_reasons.specs.Reasons.{line_reason, count_reason, first_reason, other_box, item_place, box_reason, good_lines, own_reason, bad, rest_bad, sheet_bad, reason_text, bad_text}
+use Rattle.sheet_reasons.specs.Reasons.{line_reason, count_reason, first_reason, other_box, item_place, box_reason, good_lines, own_reason, rest_bad, sheet_bad, reason_text, bad_text}
 use Rattle.sheet_reasons.specs.declared.bad.Bad.{Bad}
+use Rattle.sheet_reasons.specs.declared.bad.Bad.TheVariants.{TooLong, Line}
 use Rattle.sheet_reasons.specs.declared.reasons.Reason.{Reason}
-use Rattle.sheet_reasons.specs.declared.reasons.Reason.TheVariants.{Nothing, TooLong}
 
 -- ---- no reason of a line is without words
 
@@ -65,15 +65,19 @@ own_worded b n k m i =
 
 -- ---- what is said of a bad sheet
 
-abbrev Says : Bad → Type 0
+abbrev Says : Option Bad → Type 0
 Says x = 0 < length (bad_text x)
 
-says_words : (line : ℕ) (r : Reason) → Worded r → Says (bad line r)
+says_long : Says (Some TooLong)
+unfolding bad_text text
+says_long = omega arith
+
+says_words : (before : ℕ) (r : Reason) → Worded r → Says (Some (Line before r))
 unfolding bad_text
-says_words line r h =
-    let before = text "sheet: line " ++ decimal line ++ text ": " in
+says_words before r h =
+    let said = text "sheet: line " ++ decimal (before + 1) ++ text ": " in
     let some = h.some in
-    pick-either (λ (l : List ℕ). 0 < length l) (eqb line 0) (reason_text r) (before ++ reason_text r) (λ e. some) (λ e. omega (arith, length-append before (reason_text r)))
+    omega (arith, length-append said (reason_text r))
 
 module _ (b : List ℕ) where
   -- the first line is of another form, or there are too many bytes
@@ -81,7 +85,7 @@ module _ (b : List ℕ) where
   unfolding printed sheet_bad text
   first_line_said e = (
     (rw e),
-    (pick-either Says (ltb 4096 (length b)) (bad 0 TooLong) _ (λ t. says_words 0 TooLong (worded (omega arith))) (λ t. rw e (says_words 1 _ (line_worded b 0 (first_reason b) (first_worded b))))),
+    (pick-either Says (ltb 4096 (length b)) (Some TooLong) _ (λ t. says_long) (λ t. rw e (says_words 0 _ (line_worded b 0 (first_reason b) (first_worded b))))),
   )
 
   module _ (first : first_line_keeps b ≡ true) where
@@ -99,7 +103,7 @@ module _ (b : List ℕ) where
         let m = good_lines b n k in
         let i = line_start b (m + 1) in (
           (rw (first, g, s, e)),
-          (rw (small, first, g, s, e) (says_words (m + 2) _ (line_worded b i (own_reason b n k m i) (own_worded b n k m i)))),
+          (rw (small, first, g, s, e) (says_words (m + 1) _ (line_worded b i (own_reason b n k m i) (own_worded b n k m i)))),
         )
 
     -- ---- nothing is said of any other
@@ -109,7 +113,7 @@ module _ (b : List ℕ) where
     refused_unsaid e = rw (small, first) (go (group_keeps (sheet_set_up b)) (sizes_keep (sheet_set_up b).n (sheet_set_up b).t (sheet_set_up b).k) e)
       where
         go : (g s : Bool) → g and s ≡ false
-            → bad_text (pick (not g) (bad 0 Nothing) (pick (not s) (bad 0 Nothing) (rest_bad b (sheet_set_up b).n (sheet_set_up b).k))) ≡ []
+            → bad_text (pick (not g) None (pick (not s) None (rest_bad b (sheet_set_up b).n (sheet_set_up b).k))) ≡ []
         go false s e = refl
         go true false e = refl
         go true true e = absurd (true≢false e)

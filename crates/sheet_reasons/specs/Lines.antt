@@ -5,7 +5,7 @@
 use Rattle.std.specs.Prelude.{Bool, List, ◌≡◌, ltb}
 use Rattle.std.proofs.Math.Bool.{true, false}
 use Rattle.std.proofs.Math.Path.{refl}
-use Prim.Native.Nat.{ℕ, zero, suc, ◌+◌, ◌-◌, ◌≤◌}
+use Prim.Native.Nat.{ℕ, zero, suc, ◌+◌, ◌-◌, ◌<◌, ◌≤◌}
 use Rattle.std.proofs.Common.{add-one}
 use native.Mathlib.Omega.{arith}
 use Rattle.std.proofs.Math.Dec.{leb}
@@ -45,6 +45,10 @@ module _ (b : List ℕ) (i : ℕ) where
   pub first_word_le : (w : List ℕ) → i ≤ length b → first_word b i w ≤ length b
   unfolding first_word
   first_word_le w h = let z = first_from_le (λ (j : ℕ). word_at b j w) (length b - i) i in omega arith
+
+  pub first_word_near : (w : List ℕ) → i < first_word b i w → first_word b i w ≤ length b
+  unfolding first_word
+  first_word_near w h = let z = first_from_le (λ (j : ℕ). word_at b j w) (length b - i) i in omega arith
 
   behind_line_le : i ≤ length b → behind_line b i ≤ length b
   unfolding behind_line

@@ -3,7 +3,7 @@
 --
 -- In order: the reasons of a line; the first bad line; the words.
 -- Assumes nothing.
-use Rattle.std.specs.Prelude.{Bool, not, List, [], ◌++◌, ℕ, ◌+◌, ◌*◌, ◌≤◌, eqb, leb, ltb, length, take}
+use Rattle.std.specs.Prelude.{Bool, not, List, [], ◌++◌, ℕ, ◌+◌, ◌*◌, ◌≤◌, eqb, leb, ltb, length, take, Option, Some, None}
 use Rattle.std.proofs.Common.{arith}
 use Rattle.folds.specs.Tests.{◌and◌, pick}
 use Rattle.folds.specs.Below.{first_from, first_from_le}
@@ -12,8 +12,9 @@ use Rattle.rules.specs.Text.{text, word_at, digits_end, decimal_at, is_decimal, 
 use Rattle.rules.specs.Sheet.{sheet_set_up, first_line_keeps, rest_keeps}
 use Rattle.sheet_reasons.specs.Lines.{first_word, line_end, line_start, in_line, spaces_in}
 use Rattle.sheet_reasons.specs.declared.bad.Bad.{Bad}
+use Rattle.sheet_reasons.specs.declared.bad.Bad.TheVariants.{TooLong, Line}
 use Rattle.sheet_reasons.specs.declared.reasons.Reason.{Reason}
-use Rattle.sheet_reasons.specs.declared.reasons.Reason.TheVariants.{Nothing, TooLong, Missing, CarriageReturn, NoNewline, TwoSpaces, SpaceAtEdge, NotSheet, OutOfOrder, NotSilent, TooFew, TooMany, NoDecimal, LineTooMany}
+use Rattle.sheet_reasons.specs.declared.reasons.Reason.TheVariants.{Missing, CarriageReturn, NoNewline, TwoSpaces, SpaceAtEdge, NotSheet, OutOfOrder, NotSilent, TooFew, TooMany, NoDecimal, LineTooMany}
 
 -- ---- the reasons of a line
 
@@ -81,29 +82,24 @@ own_reason b n k m i =
     pick (eqb m 0) (count_reason (k * k) (spaces_in b i + 1))
     (pick (leb m n) (box_reason b i m) LineTooMany)
 
-abbrev pub bad : ℕ → Reason → Bad
-bad line reason = record { line = line; reason = reason }
-
-unfoldable pub rest_bad : List ℕ → ℕ → ℕ → Bad
+unfoldable pub rest_bad : List ℕ → ℕ → ℕ → Option Bad
 rest_bad b n k =
     let m = good_lines b n k in
     let i = line_start b (m + 1) in
-    pick (rest_keeps b n k) (bad 0 Nothing) (bad (m + 2) (line_reason b i (own_reason b n k m i)))
+    pick (rest_keeps b n k) None (Some (Line (m + 1) (line_reason b i (own_reason b n k m i))))
 
--- the tests are those of `printed`, in its order; 0 is no line
-unfoldable pub sheet_bad : List ℕ → Bad
+-- the tests are those of `printed`, in its order
+unfoldable pub sheet_bad : List ℕ → Option Bad
 sheet_bad b =
-    pick (ltb 4096 (length b)) (bad 0 TooLong)
-    (pick (not (first_line_keeps b)) (bad 1 (line_reason b 0 (first_reason b)))
-    (pick (not (group_keeps (sheet_set_up b))) (bad 0 Nothing)
-    (pick (not (sizes_keep (sheet_set_up b).n (sheet_set_up b).t (sheet_set_up b).k)) (bad 0 Nothing)
+    pick (ltb 4096 (length b)) (Some TooLong)
+    (pick (not (first_line_keeps b)) (Some (Line 0 (line_reason b 0 (first_reason b))))
+    (pick (not (group_keeps (sheet_set_up b))) None
+    (pick (not (sizes_keep (sheet_set_up b).n (sheet_set_up b).t (sheet_set_up b).k)) None
     (rest_bad b (sheet_set_up b).n (sheet_set_up b).k))))
 
 -- ---- the words
 
 abbrev pub reason_text : Reason → List ℕ
-reason_text Nothing = []
-reason_text TooLong = text "sheet: over 4,096 bytes\n"
 reason_text Missing = text "missing\n"
 reason_text CarriageReturn = text "a carriage return\n"
 reason_text NoNewline = text "no newline at its end\n"
@@ -117,10 +113,11 @@ reason_text TooMany = text "too many numbers\n"
 reason_text NoDecimal = text "not a decimal up to 65,535 without leading zeros\n"
 reason_text LineTooMany = text "a line too many\n"
 
-unfoldable pub bad_text : Bad → List ℕ
-bad_text x =
-    pick (eqb x.line 0) (reason_text x.reason)
-    (text "sheet: line " ++ decimal x.line ++ text ": " ++ reason_text x.reason)
+-- a line is named by its number, from 1 on
+unfoldable pub bad_text : Option Bad → List ℕ
+bad_text None = []
+bad_text (Some TooLong) = text "sheet: over 4,096 bytes\n"
+bad_text (Some (Line before reason)) = text "sheet: line " ++ decimal (before + 1) ++ text ": " ++ reason_text reason
 
 -- the page has room for any of them
 pub record Room (page : List ℕ) : Type 0 where

@@ -6,14 +6,9 @@ ghost use Rattle.sheet_reasons.specs.Lines.{first_word, behind_line, line_start,
 pub fn first_word(b: &[u8], i: usize, w: &[u8]) -> usize
     ensures { result ≡ first_word b.now i w.now }
 {
-    let mut j = i;
-    while j < b.len() {
-        if text::read::word_at(b, j, w) {
-            return j;
-        }
-        j += 1;
-    }
-    j
+    (i..b.len())
+        .find(|j| text::read::word_at(b, *j, w))
+        .unwrap_or(i.max(b.len()))
 }
 
 // Where the line behind the one from i on starts.
@@ -21,10 +16,7 @@ fn behind_line(b: &[u8], i: usize) -> usize
     ensures { result ≡ behind_line b.now i }
 {
     let end = first_word(b, i, b"\n");
-    if b.len() <= end {
-        return end;
-    }
-    end + 1
+    if b.len() <= end { end } else { end + 1 }
 }
 
 // Where the line behind l lines starts.
@@ -32,10 +24,8 @@ pub fn line_start(b: &[u8], l: usize) -> usize
     ensures { result ≡ line_start b.now l }
 {
     let mut place: usize = 0;
-    let mut j: usize = 0;
-    while j < l {
+    for _j in 0..l {
         place = behind_line(b, place);
-        j += 1;
     }
     place
 }
@@ -44,9 +34,7 @@ pub fn line_start(b: &[u8], l: usize) -> usize
 pub fn in_line(b: &[u8], i: usize, w: &[u8]) -> bool
     ensures { result ≡ in_line b.now i w.now }
 {
-    let place = first_word(b, i, w);
-    let end = first_word(b, i, b"\n");
-    place < end
+    first_word(b, i, w) < first_word(b, i, b"\n")
 }
 
 // How many spaces stand in it.
@@ -57,14 +45,5 @@ pub fn spaces_in(b: &[u8], i: usize) -> usize
     if end <= i {
         return 0;
     }
-    let width = end - i;
-    let mut spaces: usize = 0;
-    let mut j: usize = 0;
-    while j < width {
-        if text::read::byte_at(b, i + j, b' ') {
-            spaces += 1;
-        }
-        j += 1;
-    }
-    spaces
+    b[i..end].iter().filter(|x| **x == b' ').count()
 }

@@ -12,8 +12,6 @@ ghost use Rattle.sheet_reasons.specs.Reasons.{
 // One that is not of its line's form for any other reason has an item that is no decimal.
 #[derive(Clone, Copy)]
 pub enum Reason {
-    Nothing,
-    TooLong,
     Missing,
     CarriageReturn,
     NoNewline,
@@ -56,16 +54,17 @@ pub fn line_reason(b: &[u8], i: usize, own: Reason) -> Reason
 }
 
 // Of a line of so many numbers, of which it has so many.
+#[tactic(auto, unfolding(crate::specs::Reasons::count_reason))]
 pub fn count_reason(want: usize, have: usize) -> Reason
     ensures { result ≡ count_reason want have }
 {
     if have < want {
-        return Reason::TooFew;
+        Reason::TooFew
+    } else if want < have {
+        Reason::TooMany
+    } else {
+        Reason::NoDecimal
     }
-    if want < have {
-        return Reason::TooMany;
-    }
-    Reason::NoDecimal
 }
 
 // Of the first line.
@@ -79,18 +78,16 @@ pub fn first_reason(b: &[u8]) -> Reason
     if !text::read::word_at(b, 0, b"sheet ") {
         return Reason::NotSheet;
     }
-    let numbers = crate::lines::spaces_in(b, 0);
-    count_reason(4, numbers)
+    count_reason(4, crate::lines::spaces_in(b, 0))
 }
 
 // The line from i on starts with a number, and not with box m's.
 fn other_box(b: &[u8], i: usize, m: usize) -> bool
     ensures { result ≡ other_box b.now i m }
 {
-    let x = text::read::decimal_at(b, i);
-    if !x.stands {
+    let Some(x) = text::read::decimal_at(b, i) else {
         return false;
-    }
+    };
     x.number as usize != m
 }
 

@@ -3,6 +3,7 @@ ghost use Rattle.std.specs.Prelude.{◌+◌, ◌≤◌, length};
 ghost use Rattle.text.specs.Puts.{Puts};
 ghost use Rattle.sheet_reasons.specs.Reasons.{reason_text, sheet_bad, bad_text, Room};
 
+use crate::bad::{Bad, sheet_bad};
 use crate::reasons::Reason;
 
 fn put_reason(page: &mut [u8], at: usize, reason: Reason) -> usize
@@ -10,8 +11,6 @@ fn put_reason(page: &mut [u8], at: usize, reason: Reason) -> usize
     ensures { Puts page.old at (reason_text reason) 50 result page.new }
 {
     match reason {
-        Reason::Nothing => at,
-        Reason::TooLong => text::write::put_word(page, at, b"sheet: over 4,096 bytes\n"),
         Reason::Missing => text::write::put_word(page, at, b"missing\n"),
         Reason::CarriageReturn => text::write::put_word(page, at, b"a carriage return\n"),
         Reason::NoNewline => text::write::put_word(page, at, b"no newline at its end\n"),
@@ -39,13 +38,14 @@ pub fn put(b: &[u8], page: &mut [u8]) -> usize
     requires { Room page.old }
     ensures { Puts page.old 0 (bad_text (sheet_bad b.now)) 128 result page.new }
 {
-    let bad = crate::bad::sheet_bad(b);
-    let reason = bad.reason;
-    if bad.line == 0 {
-        return put_reason(page, 0, reason);
+    match sheet_bad(b) {
+        None => 0,
+        Some(Bad::TooLong) => text::write::put_word(page, 0, b"sheet: over 4,096 bytes\n"),
+        Some(Bad::Line { before, reason }) => {
+            let number = u32::from(before) + 1;
+            let next = text::write::put_numbered(page, 0, b"sheet: line ", number);
+            let next = text::write::put_word(page, next, b": ");
+            put_reason(page, next, reason)
+        }
     }
-    let next = text::write::put_word(page, 0, b"sheet: line ");
-    let next = text::write::put_decimal(page, next, bad.line as u32);
-    let next = text::write::put_word(page, next, b": ");
-    put_reason(page, next, reason)
 }

@@ -8,15 +8,6 @@ ghost use Rattle.sheet_verdicts.specs.Lines.{Printable, Recoverable, box_line, b
 
 use rules::{Element, Group, Pair, Verdict};
 
-// A word and a number behind it.
-fn put_numbered(page: &mut [u8], at: usize, word: &[u8], x: u16) -> usize
-    requires { at + length word.now + 5 ≤ length page.old }
-    ensures { Puts page.old at (word.now ++ decimal x) (length word.now + 5) result page.new }
-{
-    let next = text::write::put_word(page, at, word);
-    text::write::put_decimal(page, next, x as u32)
-}
-
 // ---- the line of a box
 
 fn put_verdict(page: &mut [u8], at: usize, verdict: Verdict) -> usize
@@ -27,7 +18,7 @@ fn put_verdict(page: &mut [u8], at: usize, verdict: Verdict) -> usize
         Verdict::Silent => text::write::put_word(page, at, b"silent\n"),
         Verdict::Verified => text::write::put_word(page, at, b"verified\n"),
         Verdict::Refused(x) => {
-            let next = put_numbered(page, at, b"refused ", x as u16);
+            let next = text::write::put_numbered(page, at, b"refused ", x as u32);
             text::write::put_word(page, next, b"\n")
         }
     }
@@ -74,10 +65,8 @@ fn put_boxes(page: &mut [u8], at: usize, count: usize, boxes: [u16; 8]) -> usize
     ensures { Puts page.old at (boxes_text count boxes) 48 result page.new }
 {
     let mut next = at;
-    let mut j: usize = 0;
-    while j < count {
-        next = put_numbered(page, next, b" ", boxes[j]);
-        j += 1;
+    for j in 0..count {
+        next = text::write::put_numbered(page, next, b" ", boxes[j] as u32);
     }
     next
 }
@@ -88,8 +77,8 @@ fn put_secret(page: &mut [u8], at: usize, pair: Pair, count: usize, boxes: [u16;
 {
     let first = pair.first;
     let second = pair.second;
-    let next = put_numbered(page, at, b"secret ", first.0);
-    let next = put_numbered(page, next, b" ", second.0);
+    let next = text::write::put_numbered(page, at, b"secret ", first.0 as u32);
+    let next = text::write::put_numbered(page, next, b" ", second.0 as u32);
     let next = text::write::put_word(page, next, b" from");
     let next = put_boxes(page, next, count, boxes);
     text::write::put_word(page, next, b"\n")
@@ -99,8 +88,8 @@ fn put_no_secret(page: &mut [u8], at: usize, v: u16, k: u16) -> usize
     requires { at + 72 ≤ length page.old }
     ensures { Puts page.old at (no_secret_line v k) 72 result page.new }
 {
-    let next = put_numbered(page, at, b"no secret, ", v);
-    let next = put_numbered(page, next, b" of ", k);
+    let next = text::write::put_numbered(page, at, b"no secret, ", v as u32);
+    let next = text::write::put_numbered(page, next, b" of ", k as u32);
     text::write::put_word(page, next, b"\n")
 }
 
@@ -114,8 +103,7 @@ fn put_last_line(page: &mut [u8], at: usize, q: u16, k: usize, verified: [Option
         return put_no_secret(page, at, count as u16, k as u16);
     }
     let pair = record_points::recovered_from(q, k, verified);
-    let boxes = all.boxes;
-    put_secret(page, at, pair, count, boxes)
+    put_secret(page, at, pair, count, all.said.map(|s| s.number))
 }
 
 // All the lines of a sheet whose matrix has passed, at the front of the page.

@@ -3,10 +3,10 @@
 -- In order: the value; what stands in a text; its digits, and the four tests of a decimal; the parts of the value; the digits
 -- put one behind the other.
 -- Assumes nothing.
-use Rattle.std.specs.Prelude.{Bool, true, false, List, [], ◌∷◌, ◌≡◌, ℕ, suc, ◌+◌, ◌-◌, ◌*◌, ◌/◌, ◌%◌, ◌^◌, ◌<◌, ◌≤◌, ltb, length, get_or, set}
+use Rattle.std.specs.Prelude.{Bool, true, false, List, [], ◌∷◌, ◌≡◌, ℕ, zero, suc, ◌+◌, ◌-◌, ◌*◌, ◌/◌, ◌%◌, ◌^◌, ◌<◌, ◌≤◌, ltb, length, get_or, set, Option, Some, None}
 use Rattle.std.proofs.Math.Bool.{not}
 use Rattle.std.proofs.Common.{sym, ◌∙◌, pow-suc, mul-div_cancel, div-one, add-one}
-use Rattle.std.proofs.Math.Path.{ap}
+use Rattle.std.proofs.Math.Path.{refl, ap}
 use Rattle.std.proofs.Math.Nat.{one-le-pow, pow-le-pow_right}
 use native.Mathlib.Omega.{arith}
 use Rattle.std.proofs.Math.Dec.{eqb, leb}
@@ -18,18 +18,21 @@ use Rattle.rules.specs.Text.{byte_at, digit_at, digits_end, digits_say, decimal_
 use Rattle.text.specs.Puts.{Puts, PutRuns, puts_byte, puts_then, runs_all}
 use Rattle.text.specs.declared.read.Decimal.{Decimal}
 
--- whether one stands at i, the number (0 where none does), and where its digits end
-unfoldable pub decimal_in : List ℕ → ℕ → Decimal
-decimal_in b i = record { stands = is_decimal b i; number = pick (is_decimal b i) (decimal_at b i) 0; end = digits_end b i }
+abbrev pub value : ℕ → ℕ → Decimal
+value number end = record { number = number; end = end }
+
+-- the number that stands at i and where its digits end, where one does
+unfoldable pub decimal_in : List ℕ → ℕ → Option Decimal
+decimal_in b i = pick (is_decimal b i) (Some (value (decimal_at b i) (digits_end b i))) None
+
+some_none : {d : Decimal} → ◌≡◌ {A = Option Decimal} (Some d) None → ⊥
+some_none e = cc
 
 -- ---- what stands in a text
 
 module _ (b : List ℕ) (i : ℕ) where
   pub byte_there : (c : ℕ) → i < length b → byte_at b i c ≡ eqb (get_or b i 0) c
   byte_there c h = ap (λ (t : Bool). t and eqb (get_or b i 0) c) (lt-ltb i (length b) h)
-
-  pub byte_behind : (c : ℕ) → length b ≤ i → byte_at b i c ≡ false
-  byte_behind c h = ap (λ (t : Bool). t and eqb (get_or b i 0) c) (le-ltb i (length b) h)
 
   pub byte_within : (c : ℕ) → byte_at b i c ≡ true → i < length b
   byte_within c h = ltb-true i (length b) (and_left (ltb i (length b)) (eqb (get_or b i 0) c) h)
@@ -98,27 +101,35 @@ module _ (b : List ℕ) (i : ℕ) where
   pub too_large : 65535 < decimal_at b i → is_decimal b i ≡ false
   too_large g = false_unless (is_decimal b i) (λ h. let t = (decimal_tests h).small in let w : ⊥ = omega arith in w)
 
-  -- the value
-  pub decimal_none : {end : ℕ} → end ≡ digits_end b i → is_decimal b i ≡ false → ◌≡◌ {A = Decimal} (record { stands = false; number = 0; end = end }) (decimal_in b i)
+  -- the value, and what one that was read says
+  pub decimal_none : is_decimal b i ≡ false → decimal_in b i ≡ None
   unfolding decimal_in
-  decimal_none e h = rw (e, h)
+  decimal_none h = rw h
 
-  pub decimal_some : {end x : ℕ} → end ≡ digits_end b i → x ≡ decimal_at b i → is_decimal b i ≡ true
-      → ◌≡◌ {A = Decimal} (record { stands = true; number = x; end = end }) (decimal_in b i)
+  pub decimal_some : is_decimal b i ≡ true → decimal_in b i ≡ Some (value (decimal_at b i) (digits_end b i))
   unfolding decimal_in
-  decimal_some e n h = rw (e, n, h)
+  decimal_some h = rw h
 
-  pub decimal_stands : {d : Decimal} → d ≡ decimal_in b i → d.stands ≡ is_decimal b i
-  unfolding decimal_in
-  decimal_stands e = ap (λ (d : Decimal). d.stands) e
+  pub record Read (d : Decimal) : Type 0 where
+    pub stands : is_decimal b i ≡ true
+    pub number : d.number ≡ decimal_at b i
+    pub end : d.end ≡ digits_end b i
 
-  pub decimal_end : {d : Decimal} → d ≡ decimal_in b i → d.end ≡ digits_end b i
+  pub some_decimal : {d : Decimal} → Some d ≡ decimal_in b i → Read d
   unfolding decimal_in
-  decimal_end e = ap (λ (d : Decimal). d.end) e
+  some_decimal {d} = go (is_decimal b i) refl
+    where
+      go : (t : Bool) → is_decimal b i ≡ t → Some d ≡ pick t (Some (value (decimal_at b i) (digits_end b i))) None → Read d
+      go true h e = record { stands = h; number = cc; end = cc }
+      go false h e = absurd (some_none e)
 
-  pub decimal_number : {d : Decimal} → d ≡ decimal_in b i → is_decimal b i ≡ true → d.number ≡ decimal_at b i
+  pub none_decimal : None ≡ decimal_in b i → is_decimal b i ≡ false
   unfolding decimal_in
-  decimal_number e h = ap (λ (d : Decimal). d.number) e ∙ ap (λ (t : Bool). pick t (decimal_at b i) 0) h
+  none_decimal = go (is_decimal b i)
+    where
+      go : (t : Bool) → None ≡ pick t (Some (value (decimal_at b i) (digits_end b i))) None → t ≡ false
+      go true e = absurd (some_none (sym e))
+      go false e = refl
 
 -- five digits at most, of 207 each at most: far below what four bytes hold
 pub powers_small : (j : ℕ) → j < 5 → 10 ^ j ≤ 10000
@@ -129,6 +140,14 @@ powers_small j h = pow-le-pow_right {n = 10} (omega arith) {i = j} {j = 4} (omeg
 -- what is put for the power of ten that comes in place j, of four
 abbrev pub piece_of : ℕ → ℕ → List ℕ
 piece_of x j = pick (ltb x (10 ^ (4 - j))) [] (digit_of x (10 ^ (4 - j)) ∷ [])
+
+-- the four powers, from the highest
+pub powers : (j : ℕ) → j < 4 → get_or (10000 ∷ 1000 ∷ 100 ∷ 10 ∷ []) j 0 ≡ 10 ^ (4 - j)
+powers zero h = refl
+powers (suc zero) h = refl
+powers (suc (suc zero)) h = refl
+powers (suc (suc (suc zero))) h = refl
+powers (suc (suc (suc (suc j)))) h = absurd (omega arith)
 
 -- a tenth of a power of ten is the next
 pub power_next : (j : ℕ) {power : ℕ} → j < 4 → power ≡ 10 ^ (4 - j) → power / 10 ≡ 10 ^ (4 - (j + 1))

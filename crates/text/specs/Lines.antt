@@ -2,13 +2,13 @@
 --
 -- In order: the test of one of them; where they stand; a turn of the loop that reads them.
 -- Assumes nothing.
-use Rattle.std.specs.Prelude.{Bool, true, false, List, ◌⊎◌, ◌≡◌, ℕ, ◌+◌, ◌<◌, eqb, length}
-use Rattle.std.proofs.Common.{inl, inr, sym, ap, ap₂, ◌∙◌, add-one, eq-eqb, ne_eqb}
+use Rattle.std.specs.Prelude.{Bool, true, false, List, ◌≡◌, ℕ, ◌+◌, ◌<◌, eqb, length, Some, None}
+use Rattle.std.proofs.Common.{sym, ap, ap₂, ◌∙◌, add-one, eq-eqb, ne_eqb}
 use Rattle.std.proofs.Math.Path.{refl}
 use Rattle.folds.specs.Tests.{◌and◌, pick, pick_true, pick-false, and_left, and_right}
 use Rattle.folds.specs.Below.{all_below_at}
-use Rattle.rules.specs.Text.{space, newline, byte_at, digits_end, is_decimal, number_place, numbers_at}
-use Rattle.text.specs.Decimals.{decimal_in, byte_within, decimal_stands, decimal_end}
+use Rattle.rules.specs.Text.{space, newline, byte_at, digits_end, is_decimal, number_place, number_at, numbers_at}
+use Rattle.text.specs.Decimals.{value, decimal_in, decimal_some, byte_within, some_decimal, none_decimal}
 use Rattle.text.specs.declared.read.Decimal.{Decimal}
 
 -- what has to stand behind number j of m; and it does; number j stands, and behind it what has to
@@ -38,26 +38,30 @@ module _ (b : List ℕ) (i : ℕ) where
     pub number_decimal : is_decimal b (number_place b i j) ≡ true
     number_decimal = and_left (is_decimal b (number_place b i j)) (ends_well b i m j) number_stands_lem
 
+    pub number_in : {place : ℕ} → place ≡ number_place b i j → decimal_in b place ≡ Some (value (number_at b i j) (digits_end b (number_place b i j)))
+    number_in e = ap (decimal_in b) e ∙ decimal_some b (number_place b i j) number_decimal
+
     pub number_within : digits_end b (number_place b i j) < length b
     number_within =
         byte_within b (digits_end b (number_place b i j)) (behind m j) (and_right (is_decimal b (number_place b i j)) (ends_well b i m j) number_stands_lem)
 
--- what has to stand behind number j, as the code picks it
-pub behind_is : {A B : Type 0} (j m : ℕ) {c : ℕ} → (A × (c ≡ newline)) ⊎ (B × (c ≡ space)) → (A → j + 1 ≡ m) → (B → j + 1 ≡ m → ⊥)
-    → c ≡ behind m j
-behind_is j m (inl w) f g = w.1 ∙ sym (pick_true (eqb (j + 1) m) newline space (eq-eqb (j + 1) m (f w.0)))
-behind_is j m (inr w) f g = w.1 ∙ sym (pick-false (eqb (j + 1) m) newline space (ne_eqb (j + 1) m (g w.0)))
+pub behind_last : (j m : ℕ) → j + 1 ≡ m → newline ≡ behind m j
+behind_last j m h = sym (pick_true (eqb (j + 1) m) newline space (eq-eqb (j + 1) m h))
 
--- a turn of the loop that reads them: d is what was read at the place of number j
-module _ (b : List ℕ) (i m j : ℕ) {place : ℕ} {d : Decimal} (e : place ≡ number_place b i j) (h : d ≡ decimal_in b place) where
-  number_read : number_stands b i m j ≡ d.stands and ends_well b i m j
-  number_read = ap (λ (t : Bool). t and ends_well b i m j) (ap (is_decimal b) (sym e) ∙ sym (decimal_stands b place h))
+pub behind_more : (j m : ℕ) → (j + 1 ≡ m → ⊥) → space ≡ behind m j
+behind_more j m h = sym (pick-false (eqb (j + 1) m) newline space (ne_eqb (j + 1) m h))
 
-  pub number_none : d.stands ≡ false → number_stands b i m j ≡ false
-  number_none s = rw s at number_read
+-- a turn of the loop that reads them: none is read at the place of number j, or d is
+module _ (b : List ℕ) (i m j : ℕ) {place : ℕ} (e : place ≡ number_place b i j) where
+  pub number_none : None ≡ decimal_in b place → number_stands b i m j ≡ false
+  number_none h = ap (λ (t : Bool). t and ends_well b i m j) (ap (is_decimal b) (sym e) ∙ none_decimal b place h)
 
-  pub number_behind : {c : ℕ} → d.stands ≡ true → c ≡ behind m j → number_stands b i m j ≡ byte_at b d.end c
-  number_behind s k = (rw s at number_read) ∙ ap₂ (byte_at b) (ap (digits_end b) (sym e) ∙ sym (decimal_end b place h)) (sym k)
+  module _ {d : Decimal} (h : Some d ≡ decimal_in b place) where
+    pub number_behind : {c : ℕ} → c ≡ behind m j → number_stands b i m j ≡ byte_at b d.end c
+    number_behind k =
+        let r = some_decimal b place h in
+        ap (λ (t : Bool). t and ends_well b i m j) (ap (is_decimal b) (sym e) ∙ r.stands)
+        ∙ ap₂ (byte_at b) (ap (digits_end b) (sym e) ∙ sym r.end) (sym k)
 
-  pub number_next : d.end + 1 ≡ number_place b i (j + 1)
-  number_next = ap (λ (n : ℕ). n + 1) (decimal_end b place h ∙ ap (digits_end b) e) ∙ sym (number_place_more b i j)
+    pub number_next : d.end + 1 ≡ number_place b i (j + 1)
+    number_next = ap (λ (n : ℕ). n + 1) ((some_decimal b place h).end ∙ ap (digits_end b) e) ∙ sym (number_place_more b i j)

@@ -59,15 +59,6 @@ module _ (out : List ℕ) (at : ℕ) where
 
 -- ---- a loop that puts them
 
--- one more of the bytes of a word
-pub word_more : (out₀ w : List ℕ) (at j : ℕ) {out : List ℕ} → j < length w → out ≡ sets out₀ at (take j w)
-    → set out (at + j) (get_or w j 0) ≡ sets out₀ at (take (j + 1) w)
-word_more out₀ w at j h e =
-    let n = length-take-le j w (let z : j ≤ length w = omega arith in z) in
-    ap (λ (t : List ℕ). sets t (at + j) (get_or w j 0 ∷ [])) e
-    ∙ sets_then out₀ at (at + j) (take j w) (get_or w j 0 ∷ []) (omega arith)
-    ∙ ap (sets out₀ at) (sym (ap (λ (n : ℕ). take n w) (add-one j) ∙ take-suc w j 0 h))
-
 -- f 0, .. f (n - 1), w bytes each at most, from `at` on: j of them are put
 pub record PutRuns (f : ℕ → List ℕ) (w n at : ℕ) (out₀ out : List ℕ) (next j : ℕ) : Type 0 where
   pub within : j ≤ n

@@ -1,6 +1,6 @@
 -- There and back: a decimal that is written is read as the number; bytes written in hexadecimal are read as the bytes.
 -- Assumes nothing.
-use Rattle.std.specs.Prelude.{Bool, true, false, not, ◌⊎◌, ◌≡◌, eqb, leb, ltb, take, drop}
+use Rattle.std.specs.Prelude.{Bool, true, false, not, ◌⊎◌, ◌≡◌, eqb, leb, ltb, take, drop, Some}
 use mathlib.Core.List.{List, [], ◌∷◌, ◌++◌, append-nil}
 use Rattle.std.proofs.Math.Logic.{inl, inr}
 use Rattle.std.proofs.Math.Path.{refl, sym, ap}
@@ -15,7 +15,7 @@ use Rattle.folds.specs.Tests.{◌and◌, ◌or◌, pick, and_intro, and_false, o
 use Rattle.folds.specs.Below.{all_below_all, first_from_here, first_from_skip}
 use Rattle.folds.specs.Runs.{gather, gather-same, length-gather_le, Stands, stands_right, stands_left, stands_piece, stands_reads, Every, every_nil, every_cons, every_append, every_gather}
 use Rattle.rules.specs.Text.{byte_at, digit_at, digits_end, digits_say, decimal_at, digit_of, decimal}
-use Rattle.text.specs.Decimals.{decimal_in, between, true_between, digits_say_more, tests_decimal, decimal_some, piece_of, power_positive}
+use Rattle.text.specs.Decimals.{value, decimal_in, between, true_between, digits_say_more, tests_decimal, decimal_some, piece_of, power_positive}
 use Rattle.text.specs.Hexadecimal.{is_hex_digit, hex_digit, hex_at, hex_said, hex_bytes, glyph, hex_pair, hex_of, hex_stands, hex_there}
 
 -- ---- a decimal
@@ -211,14 +211,14 @@ module _ (x c : ℕ) (small : x ≤ 65535) (none : between 48 57 c ≡ false) (b
           or_right (eqb (digits_end b i) (i + 1)) (not (byte_at b i 48))
           (ap not (ap (λ (t : Bool). ltb i (length b) and t) other ∙ and_false (ltb i (length b))))
 
-  pub decimal_back : decimal_in b i ≡ record { stands = true; number = x; end = i + length (decimal x) }
+  pub decimal_back : decimal_in b i ≡ Some (value x (i + length (decimal x)))
   decimal_back =
       let e = end_back in
       let n = number_back in
       let l = decimal-length x in
-      sym
-      (decimal_some b i (sym e) (sym n)
-      (tests_decimal b i (record { some = omega arith; few = omega arith; plain = plain_back; small = omega arith })))
+      decimal_some b i
+      (tests_decimal b i (record { some = omega arith; few = omega arith; plain = plain_back; small = omega arith }))
+      ∙ ap₂ (λ (y z : ℕ). Some (value y z)) n e
 
 -- ---- bytes in hexadecimal
 

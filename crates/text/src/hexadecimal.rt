@@ -16,20 +16,14 @@ ghost use Rattle.text.specs.Hexadecimal.{
 fn is_hex_digit(x: u8) -> bool
     ensures { result ≡ is_hex_digit x }
 {
-    if b'0' <= x && x <= b'9' {
-        return true;
-    }
-    b'a' <= x && x <= b'f'
+    matches!(x, b'0'..=b'9' | b'a'..=b'f')
 }
 
 fn hex_digit(x: u8) -> u8
     requires { is_hex_digit x ≡ true }
     ensures { (result ≡ hex_digit x) × (result < 16) }
 {
-    if x <= b'9' {
-        return x - b'0';
-    }
-    x - 87
+    if x <= b'9' { x - b'0' } else { x - 87 }
 }
 
 // 2n digits stand from i on.
@@ -39,18 +33,10 @@ pub fn hex_at(b: &[u8], i: usize, n: usize) -> bool
     if b.len() <= i {
         return n == 0;
     }
-    let rest = b.len() - i;
-    if rest / 2 < n {
+    if (b.len() - i) / 2 < n {
         return false;
     }
-    let mut j: usize = 0;
-    while j < 2 * n {
-        if !is_hex_digit(b[i + j]) {
-            return false;
-        }
-        j += 1;
-    }
-    true
+    b[i..i + 2 * n].iter().all(|x| is_hex_digit(*x))
 }
 
 // The byte that the two digits from i on say.
@@ -58,9 +44,7 @@ fn hex_byte(b: &[u8], i: usize) -> u8
     requires { hex_at b.now i 1 ≡ true }
     ensures { result ≡ hex_said b.now i }
 {
-    let high = hex_digit(b[i]);
-    let low = hex_digit(b[i + 1]);
-    high * 16 + low
+    hex_digit(b[i]) * 16 + hex_digit(b[i + 1])
 }
 
 // The n bytes that the digits from i on say, at the front of the buffer.
@@ -68,10 +52,8 @@ pub fn read_hex(b: &[u8], i: usize, n: usize, out: &mut [u8])
     requires { (hex_at b.now i n ≡ true) × (n ≤ length out.old) }
     ensures { out.new ≡ sets out.old 0 (hex_bytes b.now i n) }
 {
-    let mut j: usize = 0;
-    while j < n {
+    for j in 0..n {
         out[j] = hex_byte(b, i + 2 * j);
-        j += 1;
     }
 }
 
@@ -79,10 +61,7 @@ fn glyph_of(x: u8) -> u8
     requires { x < 16 }
     ensures { result ≡ glyph x }
 {
-    if x < 10 {
-        return 48 + x;
-    }
-    87 + x
+    if x < 10 { 48 + x } else { 87 + x }
 }
 
 // A byte as two digits.
@@ -101,10 +80,8 @@ pub fn put_hex(out: &mut [u8], at: usize, b: &[u8], i: usize, n: usize) -> usize
     ensures { (result ≡ at + 2 * n) × (out.new ≡ sets out.old at (hex_of b.now i n)) }
 {
     let mut next = at;
-    let mut j: usize = 0;
-    while j < n {
+    for j in 0..n {
         next = put_byte(out, next, b[i + j]);
-        j += 1;
     }
     next
 }

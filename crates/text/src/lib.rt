@@ -3,5 +3,6 @@
 #![tactic(auto)]
 
 pub mod hexadecimal;
+pub mod page;
 pub mod read;
 pub mod write;

@@ -9,7 +9,8 @@ use Rattle.std.proofs.lemmas.List.{length-replicate}
 use Rattle.folds.specs.Tests.{◌and◌, and_intro, and_not, false_unless, and_left, and_right, true≢false}
 use Rattle.rules.specs.declared.Record.{Record}
 use Rattle.rules.specs.Numbers.{is_box}
-use Rattle.rules.specs.Messages.{Message, tag_of, framed, bytes_of, has_matrix}
+use Rattle.rules.specs.declared.Message.{Message}
+use Rattle.rules.specs.Messages.{tag_of, framed, bytes_of, has_matrix}
 use Rattle.rules.specs.Dealing.{matrix_passes}
 use Rattle.rules.specs.Record.{group_in, heard_for, sound}
 use Rattle.rules.specs.Answers.{exponents_keep, checks, deliver_rows, call_rows, form_rows, turn_rows, hearing_rows, early_rows}

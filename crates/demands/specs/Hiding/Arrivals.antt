@@ -10,7 +10,9 @@ use native.Mathlib.Omega.{arith}
 use borrow.Author.Tests.{eqb-true, not-false}
 use Rattle.folds.specs.Tests.{and_rest, pick-either, true≢false}
 use Rattle.rules.specs.Numbers.{is_box}
-use Rattle.rules.specs.Messages.{Message, send, echo, ready, recovery, tag_of, framed, bytes_of, tag_in, malformed, foreign, matrix_in, polynomials_in, four_in, pair_in, message_in}
+use Rattle.rules.specs.declared.Message.{Message}
+use Rattle.rules.specs.declared.Message.TheVariants.{Send as send, Echo as echo, Ready as ready, Recovery as recovery}
+use Rattle.rules.specs.Messages.{tag_of, framed, bytes_of, tag_in, malformed, foreign, matrix_in, polynomials_in, four_in, pair_in, message_in}
 use Rattle.rules.specs.Answers.{exponents_keep}
 use Rattle.rules.specs.Laws.RoundTrip.{SetUpFits}
 use Rattle.rules.proofs.Laws.RoundTrip.{message_formed, message_ours, message_there, matrix_part, matrix_there}

@@ -14,11 +14,12 @@ use Rattle.rules.specs.declared.Record.{Record}
 use Rattle.rules.specs.declared.SetUp.{SetUp}
 use Rattle.rules.specs.Numbers.{exponent}
 use Rattle.rules.specs.Matrices.{coefficient}
-use Rattle.rules.specs.Messages.{send, tag_of, bytes_of}
+use Rattle.rules.specs.declared.Message.TheVariants.{Send as send}
+use Rattle.rules.specs.Messages.{tag_of, bytes_of}
 use Rattle.rules.specs.Dealing.{polynomials_below, coins_keep, f_of, f'_of, from_coins}
 use Rattle.rules.specs.Record.{sound}
 use Rattle.rules.specs.Steps.{deal_step}
-use Rattle.rules.specs.Answers.{first_of, deal_rows, deal, own_deal_rows, Refusal, first_row}
+use Rattle.rules.specs.Answers.{first_of, deal_rows, deal, own_deal_rows, Row, first_row}
 use Rattle.rules.proofs.Laws.Matrices.{row_same}
 use Rattle.rules.proofs.Laws.RoundTrip.{PolynomialFits, PolynomialsFit}
 use Rattle.rules.proofs.Laws.Ranges.{dealt_rooms}
@@ -113,7 +114,7 @@ module _ (t : Twice) (h : Given t) where
     unfolding deal
     deal_alike hx hy buffer =
         answered_alike t i _ _ _ _ x (moved_record t i x) buffer
-        (ap (λ (r : Refusal). r.number) (rows_same hx hy t.s t.s' t.coins (coins' t) buffer
+        (ap (λ (r : Row). r.number) (rows_same hx hy t.s t.s' t.coins (coins' t) buffer
         (own_keep t.s t.coins ∙ h.coins_keep_lem ∙ sym (own_keep t.s' (coins' t) ∙ coins_keep' t h))))
         (λ e. deal_step_lem (by_dealer buffer e)) (λ e. refl)
 
@@ -123,5 +124,5 @@ module _ (t : Twice) (h : Given t) where
     unfolding deal
     refused_alike hx hy s cs buffer bad =
         answered_alike t i _ _ _ _ x (moved_record t i x) buffer
-        (ap (λ (r : Refusal). r.number) (rows_same hx hy s s cs cs buffer refl))
+        (ap (λ (r : Row). r.number) (rows_same hx hy s s cs cs buffer refl))
         (λ e. absurd (true≢false (sym (deal_passed x s cs (length buffer) e).keeps ∙ own_keep s cs ∙ bad))) (λ e. refl)

@@ -17,11 +17,13 @@ use Rattle.rules.specs.declared.Record.{Record}
 use Rattle.rules.specs.declared.SetUp.{SetUp}
 use Rattle.rules.specs.declared.Slot.{Slot}
 use Rattle.rules.specs.Numbers.{is_box}
-use Rattle.rules.specs.Messages.{Message, send, echo, ready, recovery, tag_in, has_matrix, message_in, matrix_in, polynomials_in, four_in, whole_length, malformed}
+use Rattle.rules.specs.declared.Message.{Message}
+use Rattle.rules.specs.declared.Message.TheVariants.{Send as send, Echo as echo, Ready as ready, Recovery as recovery}
+use Rattle.rules.specs.Messages.{tag_in, has_matrix, message_in, matrix_in, polynomials_in, four_in, whole_length, malformed}
 use Rattle.rules.specs.Dealing.{matrix_passes, share_check}
 use Rattle.rules.specs.Record.{group_in, slot_at, heard_for, matrix_of, sound}
 use Rattle.rules.specs.Steps.{heard, own_slot, free_slot, slot_for, opened, message_step, point_step, taken, ready_due}
-use Rattle.rules.specs.Answers.{first_of, exponents_keep, share_checks, checks, deliver_rows, refusal_heard, deliver, form_rows, turn_rows, hearing_rows, Refusal, first_row, early_rows, call_rows}
+use Rattle.rules.specs.Answers.{first_of, exponents_keep, share_checks, checks, deliver_rows, refusal_heard, deliver, form_rows, turn_rows, hearing_rows, Row, first_row, early_rows, call_rows}
 use Rattle.rules.proofs.Laws.Numbers.{is_box_lem}
 use Rattle.rules.specs.declared.Side.{Side}
 use Rattle.rules.specs.declared.Side.TheVariants.{ByEcho, ByReady}
@@ -190,7 +192,7 @@ module _ (t : Twice) (h : Given t) (i : ℕ) (x : Record) (own_setup : x.setup �
     deliver_alike hx hy buffer ripe uncommanded =
         let same = rows_same hx hy buffer in
         answered_alike t i (first_of (deliver_rows x from bytes (length buffer))) (first_of (deliver_rows x' from bytes' (length buffer))) _ _ _ _ buffer
-        (ap (λ (r : Refusal). r.number) same)
+        (ap (λ (r : Row). r.number) same)
         (λ e.
         let c = rows_passed x from bytes (length buffer) e in
         rw (said_moved c.hearing.box c.hearing.dealer c.exponents) (takes c (ripe e) uncommanded))

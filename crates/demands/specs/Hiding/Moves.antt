@@ -23,7 +23,8 @@ use Rattle.rules.specs.declared.SetUp.{SetUp}
 use Rattle.rules.specs.declared.Slot.{Slot}
 use Rattle.rules.specs.Numbers.{exponent}
 use Rattle.rules.specs.Matrices.{row, coefficient, α, α', β, β'}
-use Rattle.rules.specs.Messages.{Message, send, echo, ready, recovery}
+use Rattle.rules.specs.declared.Message.{Message}
+use Rattle.rules.specs.declared.Message.TheVariants.{Send as send, Echo as echo, Ready as ready, Recovery as recovery}
 use Rattle.rules.specs.Record.{silent, no_slot, slot_at, place_at}
 use Rattle.rules.specs.Steps.{Said, with_slots, held_at, points}
 use Rattle.demands.specs.Terms.Histories.{Class}

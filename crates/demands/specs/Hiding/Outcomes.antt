@@ -8,7 +8,7 @@ use Rattle.std.proofs.Math.Decide.{ℕ_discrete}
 use Rattle.rules.specs.declared.Record.{Record}
 use Rattle.rules.specs.Messages.{written}
 use Rattle.rules.specs.Steps.{Step}
-use Rattle.rules.specs.Answers.{Refusal, Done, done, accepted, refused, answered, call_rows, first_row}
+use Rattle.rules.specs.Answers.{Row, Done, done, accepted, refused, answered, call_rows, first_row}
 use Rattle.rules.proofs.Laws.DemandOne.{answered_accepted, answered_refused}
 use Rattle.rules.proofs.Laws.Lengths.{take-written}
 use Rattle.demands.specs.Terms.Histories.{wrote}
@@ -59,10 +59,10 @@ answered_alike t i n n' st st' after after' buffer same taken refusal = rw (← 
 -- ---- the rows of the table
 
 -- rows that come out alike, each where those before it do not hold
-pub row_alike : (r r' : Refusal) (rows rows' : List Refusal) → r.number ≡ r'.number → r.marks ≡ r'.marks → r.holds ≡ r'.holds
+pub row_alike : (r r' : Row) (rows rows' : List Row) → r.number ≡ r'.number → r.marks ≡ r'.marks → r.holds ≡ r'.holds
     → (r.holds ≡ false → first_row rows ≡ first_row rows') → first_row (r ∷ rows) ≡ first_row (r' ∷ rows')
 unfolding first_row
-row_alike r r' rows rows' n m h rest = ap (λ (x : Refusal). pick x.holds x (first_row rows)) row_same ∙ go r'.holds h
+row_alike r r' rows rows' n m h rest = ap (λ (x : Row). pick x.holds x (first_row rows)) row_same ∙ go r'.holds h
   where
     row_same : r ≡ r'
     row_same = λ i. record { number = n i; holds = h i; marks = m i }
@@ -72,7 +72,7 @@ row_alike r r' rows rows' n m h rest = ap (λ (x : Refusal). pick x.holds x (fir
     go false e = rest e
 
 -- those of every call, of two sound records
-pub call_alike : (x x' : Record) (lent : ℕ) (rows rows' : List Refusal) → sound x ≡ true → sound x' ≡ true → first_row rows ≡ first_row rows'
+pub call_alike : (x x' : Record) (lent : ℕ) (rows rows' : List Row) → sound x ≡ true → sound x' ≡ true → first_row rows ≡ first_row rows'
     → first_row (call_rows x lent ++ rows) ≡ first_row (call_rows x' lent ++ rows')
 unfolding call_rows
 call_alike x x' lent rows rows' hx hy rest =

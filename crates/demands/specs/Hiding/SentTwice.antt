@@ -15,7 +15,9 @@ use Rattle.rules.specs.declared.Exponent.{Exponent}
 use Rattle.rules.specs.declared.Four.{Four}
 use Rattle.rules.specs.declared.Polynomials.{Polynomials}
 use Rattle.rules.specs.Matrices.{coefficient}
-use Rattle.rules.specs.Messages.{Message, send, echo, ready, recovery, two_bytes, matrix_bytes, coefficient_bytes, polynomial_bytes, tag_of, body_of, framed, bytes_of, to_each}
+use Rattle.rules.specs.declared.Message.{Message}
+use Rattle.rules.specs.declared.Message.TheVariants.{Send as send, Echo as echo, Ready as ready, Recovery as recovery}
+use Rattle.rules.specs.Messages.{two_bytes, matrix_bytes, coefficient_bytes, polynomial_bytes, tag_of, body_of, framed, bytes_of, to_each}
 use Rattle.rules.specs.Dealing.{coefficients_below, polynomials_below, four_below}
 use Rattle.rules.proofs.Laws.Lengths.{length-to_each}
 use Rattle.rules.proofs.Laws.RoundTrip.{MatrixFits, PolynomialFits, PolynomialsFit, FourFits, Fits}

@@ -23,7 +23,8 @@ use Rattle.rules.specs.declared.Polynomials.{Polynomials}
 use Rattle.rules.specs.declared.Record.{Record}
 use Rattle.rules.specs.declared.Slot.{Slot}
 use Rattle.rules.specs.Matrices.{zero_four}
-use Rattle.rules.specs.Messages.{echo, ready, tag_of, bytes_of}
+use Rattle.rules.specs.declared.Message.TheVariants.{Echo as echo, Ready as ready}
+use Rattle.rules.specs.Messages.{tag_of, bytes_of}
 use Rattle.rules.specs.Record.{slot_at, place_at, matrix_of, count_e, count_r, same_matrix, zero_slot}
 use Rattle.rules.specs.Steps.{with_slots, Said, pair_from, ready_four, echo_four, points, own_slot, free_slot, slot_for, opened, first_point, holding, keeping, Step, quiet, send_step, with_slot, ready_sent, lowest, completing, completed, completion_due, point_at, point_step, taken, ready_due}
 use Rattle.rules.proofs.Laws.Checks.{echo_below, ready_below}

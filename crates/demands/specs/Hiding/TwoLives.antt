@@ -14,11 +14,12 @@ use Rattle.rules.specs.declared.Answer.{Answer}
 use Rattle.rules.specs.declared.Record.{Record}
 use Rattle.rules.specs.declared.SetUp.{SetUp}
 use Rattle.rules.specs.Numbers.{is_box}
-use Rattle.rules.specs.Messages.{Message, bytes_of}
+use Rattle.rules.specs.declared.Message.{Message}
+use Rattle.rules.specs.Messages.{bytes_of}
 use Rattle.rules.specs.Dealing.{coins_keep}
 use Rattle.rules.specs.Record.{zero_slot, new_record, sound}
 use Rattle.rules.specs.Steps.{recover_step}
-use Rattle.rules.specs.Answers.{first_of, Done, accepted, recover_rows, recover, own_recover_rows, Refusal, first_row}
+use Rattle.rules.specs.Answers.{first_of, Done, accepted, recover_rows, recover, own_recover_rows, Row, first_row}
 use Rattle.rules.proofs.Laws.Numbers.{is_box_lem}
 use Rattle.rules.proofs.Laws.DemandOne.{answered_accepted}
 use Rattle.demands.specs.Terms.Histories.{Call, deals, gets, commanded, own, doing, after, answers, wrote, sendings, message_to, message_at}
@@ -52,7 +53,7 @@ module _ (t : Twice) (i : ℕ) (x : Record) (hx : sound x ≡ true) (hy : sound 
   unfolding recover
   recover_alike unmarked =
       answered_alike t i _ _ _ _ x (moved_record t i x) buffer
-      (ap (λ (r : Refusal). r.number) rows_same) (λ e. absurd (true≢false (sym (taken_marks x buffer e) ∙ unmarked))) (λ e. refl)
+      (ap (λ (r : Row). r.number) rows_same) (λ e. absurd (true≢false (sym (taken_marks x buffer e) ∙ unmarked))) (λ e. refl)
 
 -- ---- the two lives of box i
 

@@ -11,7 +11,9 @@ use Rattle.rules.specs.declared.SetUp.{SetUp}
 use Rattle.rules.specs.declared.Side.{Side}
 use Rattle.rules.specs.declared.Side.TheVariants.{ByEcho, ByReady}
 use Rattle.rules.specs.Numbers.{element, is_box}
-use Rattle.rules.specs.Messages.{Message, send, echo, ready, recovery, saying, side_tag, tag_of, bytes_of, message_in, to_each}
+use Rattle.rules.specs.declared.Message.{Message}
+use Rattle.rules.specs.declared.Message.TheVariants.{Send as send, Echo as echo, Ready as ready, Recovery as recovery}
+use Rattle.rules.specs.Messages.{saying, side_tag, tag_of, bytes_of, message_in, to_each}
 use Rattle.rules.specs.Record.{same_matrix}
 use Rattle.rules.proofs.Laws.Numbers.{is_box_lem}
 use Rattle.rules.proofs.Laws.Matrices.{matrix_same}

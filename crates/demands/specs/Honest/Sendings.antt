@@ -18,7 +18,8 @@ use Rattle.rules.specs.declared.Sent.TheVariants.{Nothing, Send, Echo, Ready, Re
 use Rattle.rules.specs.declared.SetUp.{SetUp}
 use Rattle.rules.specs.declared.Side.TheVariants.{ByEcho, ByReady}
 use Rattle.rules.specs.Numbers.{is_box}
-use Rattle.rules.specs.Messages.{send, echo, ready, recovery, matrix_in, polynomials_in, to_each}
+use Rattle.rules.specs.declared.Message.TheVariants.{Send as send, Echo as echo, Ready as ready, Recovery as recovery}
+use Rattle.rules.specs.Messages.{matrix_in, polynomials_in, to_each}
 use Rattle.rules.specs.Dealing.{from_coins, f_of, f'_of}
 use Rattle.rules.specs.Record.{slot_at}
 use Rattle.rules.specs.Steps.{echo_four, completed_share, share_bytes}

@@ -12,7 +12,8 @@ use Rattle.rules.specs.declared.Record.{Record}
 use Rattle.rules.specs.declared.Sent.{Sent}
 use Rattle.rules.specs.declared.Sent.TheVariants.{Nothing, Send, Echo, Ready, Recovery}
 use Rattle.rules.specs.declared.SetUp.{SetUp}
-use Rattle.rules.specs.Messages.{ready, matrix_in, to_each}
+use Rattle.rules.specs.declared.Message.TheVariants.{Ready as ready}
+use Rattle.rules.specs.Messages.{matrix_in, to_each}
 use Rattle.rules.specs.Record.{slot_at, matrix_of}
 use Rattle.rules.specs.Steps.{points, ready_four, completed_share, share_bytes}
 use Rattle.rules.specs.Answers.{Done, set_up}

@@ -15,7 +15,8 @@ use Rattle.rules.specs.declared.Record.{Record}
 use Rattle.rules.specs.declared.Sent.{Sent}
 use Rattle.rules.specs.declared.Sent.TheVariants.{Send, Recovery}
 use Rattle.rules.specs.declared.SetUp.{SetUp}
-use Rattle.rules.specs.Messages.{recovery, to_each}
+use Rattle.rules.specs.declared.Message.TheVariants.{Recovery as recovery}
+use Rattle.rules.specs.Messages.{to_each}
 use Rattle.rules.specs.Dealing.{coins_keep}
 use Rattle.rules.specs.Record.{slot_at, sound}
 use Rattle.rules.specs.Steps.{Step, deal_step, recover_step, completed_share, share_bytes}

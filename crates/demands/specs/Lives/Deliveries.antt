@@ -19,7 +19,8 @@ use Rattle.rules.specs.declared.Progress.{Progress}
 use Rattle.rules.specs.declared.Record.{Record}
 use Rattle.rules.specs.declared.Sent.TheVariants.{Echo}
 use Rattle.rules.specs.declared.SetUp.{SetUp}
-use Rattle.rules.specs.Messages.{Message, tag_in, matrix_in, four_in, pair_in, message_in}
+use Rattle.rules.specs.declared.Message.{Message}
+use Rattle.rules.specs.Messages.{tag_in, matrix_in, four_in, pair_in, message_in}
 use Rattle.rules.specs.Dealing.{point_check}
 use Rattle.rules.specs.Record.{group_in, same_matrix, sound}
 use Rattle.rules.specs.Steps.{heard, send_step, slot_for, share_step, message_step}

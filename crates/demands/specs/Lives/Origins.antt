@@ -17,7 +17,9 @@ use Rattle.rules.specs.declared.Sent.{Sent}
 use Rattle.rules.specs.declared.Sent.TheVariants.{Nothing, Send, Echo, Ready, Recovery}
 use Rattle.rules.specs.declared.SetUp.{SetUp}
 use Rattle.rules.specs.declared.Slot.{Slot}
-use Rattle.rules.specs.Messages.{Message, echo, ready, tag_in, matrix_in, polynomials_in, pair_in, message_in, to_each}
+use Rattle.rules.specs.declared.Message.{Message}
+use Rattle.rules.specs.declared.Message.TheVariants.{Echo as echo, Ready as ready}
+use Rattle.rules.specs.Messages.{tag_in, matrix_in, polynomials_in, pair_in, message_in, to_each}
 use Rattle.rules.specs.Dealing.{coins_keep, matrix_passes, polynomial_check}
 use Rattle.rules.specs.Record.{slot_at, matrix_of, shares_kept}
 use Rattle.rules.specs.Steps.{Step, heard, points, ready_four, echo_four, own_slot, free_slot, slot_for, opened, keeping, send_step, ready_sent, completed, sharing, recovering, share_step, message_step, deal_step, completed_share, share_bytes, recover_step, completion_due, point_at, point_step, taken, ready_due}

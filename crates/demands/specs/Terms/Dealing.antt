@@ -2,7 +2,8 @@
 --
 -- In that order.
 -- Assumes nothing.
-use Rattle.rules.specs.Messages.{send, to_each}
+use Rattle.rules.specs.declared.Message.TheVariants.{Send as send}
+use Rattle.rules.specs.Messages.{to_each}
 use Rattle.std.specs.Prelude.{◌≡◌, true, ◌≢◌, List, ℕ, ◌<◌, ◌≤◌, length, get_or}
 use Rattle.rules.specs.declared.Element.{Element}
 use Rattle.rules.specs.declared.Four.{Four}

@@ -15,7 +15,8 @@ use Rattle.rules.specs.declared.Record.{Record}
 use Rattle.rules.specs.declared.Sent.{Sent}
 use Rattle.rules.specs.declared.Sent.TheVariants.{Nothing, Send, Echo, Ready, Recovery}
 use Rattle.rules.specs.declared.SetUp.{SetUp}
-use Rattle.rules.specs.Messages.{tag_in, matrix_in, four_in, pair_in, echo, ready, recovery, polynomials_in, to_each}
+use Rattle.rules.specs.declared.Message.TheVariants.{Echo as echo, Ready as ready, Recovery as recovery}
+use Rattle.rules.specs.Messages.{tag_in, matrix_in, four_in, pair_in, polynomials_in, to_each}
 use Rattle.rules.specs.Record.{slot_at, same_matrix, count_e, count_r}
 use Rattle.rules.specs.Steps.{Said, points, own_slot, first_point, echo_four, ready_four}
 use Rattle.rules.specs.Answers.{Done}

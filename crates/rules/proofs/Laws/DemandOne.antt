@@ -15,20 +15,20 @@ use Rattle.rules.specs.declared.Outcome.{Outcome}
 use Rattle.rules.specs.Messages.{tag_in, has_matrix, written}
 use Rattle.rules.specs.Record.{zero_record}
 use Rattle.rules.specs.Steps.{Step, heard}
-use Rattle.rules.specs.Answers.{Refusal, first_row, first_of, Done, done, no_pair, accepted, refused, outcome_of, answered, set_up_rows, set_up, SetsUp, call_rows, own_deal_rows, deal_rows, deal, Deals, own_recover_rows, recover_rows, recover, Recovers, form_rows, turn_rows, hearing_tests, hearing_rows, early_rows, deliver_rows, refusal_heard, deliver, Delivers, DeliversLent}
+use Rattle.rules.specs.Answers.{Row, first_row, first_of, Done, done, no_pair, accepted, refused, outcome_of, answered, set_up_rows, set_up, SetsUp, call_rows, own_deal_rows, deal_rows, deal, Deals, own_recover_rows, recover_rows, recover, Recovers, form_rows, turn_rows, hearing_tests, hearing_rows, early_rows, deliver_rows, refusal_heard, deliver, Delivers, DeliversLent}
 use Rattle.rules.proofs.Laws.Table.{row, none_before, none, lacks, distinct, numbers, first_row_lem, first_none, marks_by, first_marks, each, marking_by, among}
 
 -- ---- (a) and (c): which number a call gives
 
 -- the number n of an answer goes by the rows of a table, which stand in this order
-pub record ByTable (order : List ℕ) (rows : List Refusal) (n : ℕ) : Type 0 where
+pub record ByTable (order : List ℕ) (rows : List Row) (n : ℕ) : Type 0 where
   pub in_order : numbers rows ≡ order
   -- (a) number x is given exactly when row x holds and no row that comes before it
   pub given : (x : ℕ) → x ≢ 0 → (n ≡ x) ↔ ((row rows x ≡ true) × (none_before rows x ≡ true))
   -- (c) 0 is given exactly when no row holds
   pub zero : (n ≡ 0) ↔ (none rows ≡ true)
 
-by_table : (order : List ℕ) (rows : List Refusal) (n : ℕ) → numbers rows ≡ order → distinct order ≡ true → lacks 0 order ≡ true → n ≡ first_of rows → ByTable order rows n
+by_table : (order : List ℕ) (rows : List Row) (n : ℕ) → numbers rows ≡ order → distinct order ≡ true → lacks 0 order ≡ true → n ≡ first_of rows → ByTable order rows n
 by_table order rows n o d l e =
     record {
       in_order = o;

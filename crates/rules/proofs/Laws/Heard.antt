@@ -13,7 +13,9 @@ use Rattle.rules.specs.declared.Record.{Record}
 use Rattle.rules.specs.declared.Side.{Side}
 use Rattle.rules.specs.declared.Side.TheVariants.{ByEcho, ByReady}
 use Rattle.rules.specs.declared.Slot.{Slot}
-use Rattle.rules.specs.Messages.{Message, send, echo, ready, recovery, tag_of, tag_in, message_in}
+use Rattle.rules.specs.declared.Message.{Message}
+use Rattle.rules.specs.declared.Message.TheVariants.{Send as send, Echo as echo, Ready as ready, Recovery as recovery}
+use Rattle.rules.specs.Messages.{tag_of, tag_in, message_in}
 use Rattle.rules.specs.Record.{no_marks, marked, heard_for, shares_kept}
 use Rattle.rules.specs.Steps.{Step, mark, heard, send_step, ready_sent, completing, completed, ready_due, completion_due, point_at, point_step, sharing, recovering, share_step, message_step}
 use Rattle.rules.specs.Answers.{Done, accepted, answered, first_of, deliver_rows, deliver}

@@ -11,7 +11,8 @@ use Rattle.std.proofs.Math.Path.{subst}
 use Rattle.folds.specs.Tests.{and_right, pick-either}
 use Rattle.rules.specs.declared.Record.{Record}
 use Rattle.rules.specs.declared.Side.TheVariants.{ByEcho, ByReady}
-use Rattle.rules.specs.Messages.{Message, tag_in, pair_in, message_in}
+use Rattle.rules.specs.declared.Message.{Message}
+use Rattle.rules.specs.Messages.{tag_in, pair_in, message_in}
 use Rattle.rules.specs.Record.{sound}
 use Rattle.rules.specs.Steps.{Step, heard, send_step, message_step, deal_step, recover_step}
 use Rattle.rules.specs.Answers.{first_row, first_of, accepted, refused, answered, deal_rows, deal, recover_rows, recover, exponents_keep, deliver_rows, refusal_heard, deliver, Done}

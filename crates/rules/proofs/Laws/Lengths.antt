@@ -22,7 +22,9 @@ use Rattle.std.specs.Prelude.{Option, Some, None, is_some}
 use Rattle.rules.specs.declared.Record.{Record}
 use Rattle.rules.specs.Numbers.{group_keeps}
 use Rattle.rules.specs.Matrices.{entry, coefficient}
-use Rattle.rules.specs.Messages.{Message, send, echo, ready, recovery, two_bytes, matrix_bytes, coefficient_bytes, polynomial_bytes, four_bytes, pair_bytes, tag_of, body_of, framed, bytes_of, whole_length, to_each, written}
+use Rattle.rules.specs.declared.Message.{Message}
+use Rattle.rules.specs.declared.Message.TheVariants.{Send as send, Echo as echo, Ready as ready, Recovery as recovery}
+use Rattle.rules.specs.Messages.{two_bytes, matrix_bytes, coefficient_bytes, polynomial_bytes, four_bytes, pair_bytes, tag_of, body_of, framed, bytes_of, whole_length, to_each, written}
 use Rattle.rules.specs.Record.{shares_kept, setup_keeps, sound}
 use Rattle.rules.specs.Steps.{Step, Said, heard, quiet, with_slot, lowest, send_step, ready_sent, completed, ready_due, completion_due, point_at, point_step, recovering, share_step, message_step, deal_step, completed_share, share_bytes, recover_step}
 use Rattle.rules.proofs.Laws.Numbers.{bounds}

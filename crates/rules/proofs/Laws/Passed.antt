@@ -12,7 +12,7 @@ use borrow.Author.Tests.{le-leb, eq-eqb, eqb-true, ltb-false, not-false, ne_eqb}
 use Rattle.folds.specs.Tests.{◌and◌, and_rest, or_false, false_unless}
 use Rattle.rules.specs.declared.Record.{Record}
 use Rattle.rules.specs.Messages.{tag_in, has_matrix}
-use Rattle.rules.specs.Answers.{Refusal, first_row, first_of, call_rows, own_deal_rows, deal_rows, own_recover_rows, recover_rows, form_rows, turn_rows, hearing_tests, hearing_rows, early_rows, deliver_rows, refusal_heard}
+use Rattle.rules.specs.Answers.{Row, first_row, first_of, call_rows, own_deal_rows, deal_rows, own_recover_rows, recover_rows, form_rows, turn_rows, hearing_tests, hearing_rows, early_rows, deliver_rows, refusal_heard}
 use Rattle.rules.proofs.Laws.Numbers.{is_box_lem}
 use Rattle.rules.proofs.Laws.RoundTrip.{formed}
 use Rattle.rules.proofs.Laws.Table.{row, lacks, numbers, first_none, past, both_passed, marks_by, each, marking_by, nobody, marked_behind, first_before, first_behind, first_marks, unmarked}
@@ -127,7 +127,7 @@ module _ (x : Record) (sender : ℕ) (bytes : List ℕ) (lent : ℕ) where
   early_leaves some =
       let early = early_rows x sender bytes lent in
       let marks : (first_row (early ++ hearing_rows x sender bytes)).marks ≡ false =
-      ap (λ (r : Refusal). r.marks)
+      ap (λ (r : Row). r.marks)
       (first_before early (hearing_rows x sender bytes) (false_unless _ (λ h. some ((first_none early (early_numbered x sender bytes lent)).1 h))))
       ∙ unmarked early (early_quiet x sender bytes lent) in
       rw marks
@@ -139,6 +139,6 @@ module _ (x : Record) (sender : ℕ) (bytes : List ℕ) (lent : ℕ) where
   hearing_leaves none some =
       let early = early_rows x sender bytes lent in
       ap (λ m. refusal_heard m x sender bytes)
-      (ap (λ (r : Refusal). r.marks)
+      (ap (λ (r : Row). r.marks)
       (first_behind early (hearing_rows x sender bytes) ((first_none early (early_numbered x sender bytes lent)).0 none))
       ∙ hearing_marks x sender bytes ∙ ap (λ b. not b and has_matrix (tag_in bytes)) (ne_eqb _ 0 some))

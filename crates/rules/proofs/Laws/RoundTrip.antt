@@ -25,7 +25,9 @@ use Rattle.rules.specs.declared.Polynomials.{Polynomials}
 use Rattle.rules.specs.declared.SetUp.{SetUp}
 use Rattle.rules.specs.Numbers.{exponent, element, numbers_keep}
 use Rattle.rules.specs.Matrices.{row, matrix, entry, coefficient, α, α', β, β'}
-use Rattle.rules.specs.Messages.{Message, send, echo, ready, recovery, end_place, two_bytes, matrix_bytes, coefficient_bytes, polynomial_bytes, four_bytes, pair_bytes, tag_of, body_of, framed, bytes_of, whole_length, word, tag_in, has_matrix, malformed, foreign, matrix_in, coefficients_in, polynomials_in, four_in, pair_in, message_in}
+use Rattle.rules.specs.declared.Message.{Message}
+use Rattle.rules.specs.declared.Message.TheVariants.{Send as send, Echo as echo, Ready as ready, Recovery as recovery}
+use Rattle.rules.specs.Messages.{end_place, two_bytes, matrix_bytes, coefficient_bytes, polynomial_bytes, four_bytes, pair_bytes, tag_of, body_of, framed, bytes_of, whole_length, word, tag_in, has_matrix, malformed, foreign, matrix_in, coefficients_in, polynomials_in, four_in, pair_in, message_in}
 use Rattle.rules.proofs.Laws.Numbers.{bounds}
 use Rattle.rules.proofs.Laws.Matrices.{row_same, matrix_same, entry_at, coefficient_at}
 use Rattle.rules.proofs.Laws.Lengths.{whole_length_least, length-numbers, length-matrix, length-coefficients, length_header, length_message, length_message_le}

@@ -3,26 +3,29 @@
 -- In order: the rows of a table by their numbers; the first row; tables one behind the other; which rows mark the sender heard.
 -- What holds past a row is one law, `past`: no row of an accepted call holds.
 -- Assumes nothing.
-use Rattle.std.specs.Prelude.{◌≡◌, refl, Bool, true, false, not, List, [], ◌∷◌, ◌++◌, map, ◌↔◌, ◌≢◌, ℕ, eqb}
-use Rattle.std.proofs.Common.{sym, ap, ◌∙◌, subst, ⊎_elim, eqb-true}
+use Rattle.std.specs.Prelude.{◌≡◌, refl, Bool, true, false, not, List, [], ◌∷◌, ◌++◌, map, ◌↔◌, ◌≢◌, ℕ, ◌≤◌, eqb}
+use Rattle.std.proofs.Common.{sym, ap, ◌∙◌, subst, ⊎_elim, eqb-true, arith}
+use borrow.Author.Rules.{rules}
 use Rattle.std.proofs.lemmas.Bool.{eqb-false, not-true}
 use Rattle.folds.specs.Tests.{◌and◌, pick, pick-either, same, true≢false, and_left, and_right, and_intro, same_eq, eq_same, decide}
-use Rattle.rules.specs.Answers.{Refusal, marking, first_row, first_of}
+use Rattle.rules.specs.declared.Refusal.{Refusal}
+use Rattle.rules.specs.Refusals.{refusal_number}
+use Rattle.rules.specs.Answers.{Row, marking, first_row, first_of}
 
 -- ---- the rows of a table by their numbers
 
 -- row x of a table holds
-unfoldable pub row : List Refusal → ℕ → Bool
+unfoldable pub row : List Row → ℕ → Bool
 row [] x = false
 row (y ∷ ys) x = pick (eqb y.number x) y.holds (row ys x)
 
 -- no row that comes before row x holds
-unfoldable pub none_before : List Refusal → ℕ → Bool
+unfoldable pub none_before : List Row → ℕ → Bool
 none_before [] x = true
 none_before (y ∷ ys) x = pick (eqb y.number x) true (not y.holds and none_before ys x)
 
 -- no row holds
-unfoldable pub none : List Refusal → Bool
+unfoldable pub none : List Row → Bool
 none [] = true
 none (y ∷ ys) = not y.holds and none ys
 
@@ -38,13 +41,13 @@ unfoldable pub distinct : List ℕ → Bool
 distinct [] = true
 distinct (y ∷ ys) = lacks y ys and distinct ys
 
-abbrev pub numbers : List Refusal → List ℕ
+abbrev pub numbers : List Row → List ℕ
 numbers = map (λ y. y.number)
 
 -- ---- the first row
 
 -- a number other than 0 that does not occur is not given
-first_lacks : (xs : List Refusal) (x : ℕ) → x ≢ 0 → lacks x (numbers xs) ≡ true → first_of xs ≡ x → ⊥
+first_lacks : (xs : List Row) (x : ℕ) → x ≢ 0 → lacks x (numbers xs) ≡ true → first_of xs ≡ x → ⊥
 unfolding first_row lacks
 first_lacks [] x z h e = z (sym e)
 first_lacks (y ∷ ys) x z h e = go y.holds (first_lacks ys x z (and_right (not (eqb y.number x)) (lacks x (numbers ys)) h)) e
@@ -54,7 +57,7 @@ first_lacks (y ∷ ys) x z h e = go y.holds (first_lacks ys x z (and_right (not 
     go false f e = f e
 
 -- Its number is given exactly when a row holds and no row before it does.
-pub first_row_lem : (xs : List Refusal) → distinct (numbers xs) ≡ true → (x : ℕ) → x ≢ 0 → (first_of xs ≡ x) ↔ ((row xs x ≡ true) × (none_before xs x ≡ true))
+pub first_row_lem : (xs : List Row) → distinct (numbers xs) ≡ true → (x : ℕ) → x ≢ 0 → (first_of xs ≡ x) ↔ ((row xs x ≡ true) × (none_before xs x ≡ true))
 unfolding first_row row none_before distinct
 first_row_lem [] d x z = ((λ e. absurd (z (sym e))), λ h. absurd (true≢false (sym h.0)))
 first_row_lem (y ∷ ys) d x z = go y.holds (eqb y.number x) refl (first_row_lem ys (and_right (lacks y.number (numbers ys)) (distinct (numbers ys)) d) x z)
@@ -70,7 +73,7 @@ first_row_lem (y ∷ ys) d x z = go y.holds (eqb y.number x) refl (first_row_lem
     go false false q ih = ih
 
 -- 0 is given exactly when no row holds.
-pub first_none : (xs : List Refusal) → lacks 0 (numbers xs) ≡ true → (first_of xs ≡ 0) ↔ (none xs ≡ true)
+pub first_none : (xs : List Row) → lacks 0 (numbers xs) ≡ true → (first_of xs ≡ 0) ↔ (none xs ≡ true)
 unfolding first_row none lacks
 first_none [] d = ((λ e. refl), λ h. refl)
 first_none (y ∷ ys) d = go y.holds (first_none ys (and_right (not (eqb y.number 0)) (lacks 0 (numbers ys)) d))
@@ -81,7 +84,7 @@ first_none (y ∷ ys) d = go y.holds (first_none ys (and_right (not (eqb y.numbe
     go false ih = ih
 
 -- Where no row holds, row x does not.
-pub none_row : (xs : List Refusal) → none xs ≡ true → (x : ℕ) → row xs x ≡ false
+pub none_row : (xs : List Row) → none xs ≡ true → (x : ℕ) → row xs x ≡ false
 unfolding row none
 none_row [] h x = refl
 none_row (y ∷ ys) h x =
@@ -90,13 +93,13 @@ none_row (y ∷ ys) h x =
     (λ e. none_row ys (and_right (not y.holds) (none ys) h) x)
 
 -- No row of an accepted call holds.
-pub past : (xs : List Refusal) → lacks 0 (numbers xs) ≡ true → first_of xs ≡ 0 → (x : ℕ) → row xs x ≡ false
+pub past : (xs : List Row) → lacks 0 (numbers xs) ≡ true → first_of xs ≡ 0 → (x : ℕ) → row xs x ≡ false
 past xs d e = none_row xs ((first_none xs d).0 e)
 
 -- ---- tables one behind the other
 
 -- The first row is one of the second where none of the first holds,
-pub first_behind : (xs ys : List Refusal) → none xs ≡ true → first_row (xs ++ ys) ≡ first_row ys
+pub first_behind : (xs ys : List Row) → none xs ≡ true → first_row (xs ++ ys) ≡ first_row ys
 unfolding first_row none
 first_behind [] ys h = refl
 first_behind (y ∷ xs) ys h =
@@ -104,7 +107,7 @@ first_behind (y ∷ xs) ys h =
     ∙ first_behind xs ys (and_right (not y.holds) (none xs) h)
 
 -- else it is the first of the first.
-pub first_before : (xs ys : List Refusal) → none xs ≡ false → first_row (xs ++ ys) ≡ first_row xs
+pub first_before : (xs ys : List Row) → none xs ≡ false → first_row (xs ++ ys) ≡ first_row xs
 unfolding first_row none
 first_before [] ys h = absurd (true≢false h)
 first_before (y ∷ xs) ys h = go y.holds (first_before xs ys) h
@@ -115,7 +118,7 @@ first_before (y ∷ xs) ys h = go y.holds (first_before xs ys) h
     go false ih h = ih h
 
 -- So by its number n, which code computes and tests for 0.
-module _ (xs ys : List Refusal) (d : lacks 0 (numbers xs) ≡ true) {n : ℕ} (is : n ≡ first_of xs) where
+module _ (xs ys : List Row) (d : lacks 0 (numbers xs) ≡ true) {n : ℕ} (is : n ≡ first_of xs) where
   pub stops : n ≢ 0 → n ≡ first_of (xs ++ ys)
   stops some =
       is ∙ sym (ap (λ r. r.number) (⊎_elim (λ h. absurd (some (is ∙ (first_none xs d).1 h))) (first_before xs ys) (decide (none xs))))
@@ -124,8 +127,15 @@ module _ (xs ys : List Refusal) (d : lacks 0 (numbers xs) ≡ true) {n : ℕ} (i
   goes_on zero e =
       e ∙ sym (ap (λ r. r.number) (first_behind xs ys ((first_none xs d).0 (sym is ∙ zero))))
 
+-- A refusal has a number other than 0: where code has one, it stops there.
+pub refusal_some : (r : Refusal) → refusal_number r ≢ 0
+refusal_some r e = omega (arith, low r)
+  where
+    low : (r : Refusal) → 1 ≤ refusal_number r
+    low r = search rules
+
 -- Accepted by both is accepted by each.
-pub both_passed : (xs ys : List Refusal) → lacks 0 (numbers xs) ≡ true → first_of (xs ++ ys) ≡ 0 → (first_of xs ≡ 0) × (first_of ys ≡ 0)
+pub both_passed : (xs ys : List Row) → lacks 0 (numbers xs) ≡ true → first_of (xs ++ ys) ≡ 0 → (first_of xs ≡ 0) × (first_of ys ≡ 0)
 both_passed xs ys d e =
     ⊎_elim
     (λ n. ((first_none xs d).1 n, sym (ap (λ r. r.number) (first_behind xs ys n)) ∙ e))
@@ -135,12 +145,12 @@ both_passed xs ys d e =
 -- ---- which rows mark the sender heard
 
 -- each row marks the sender heard exactly if this says so of its number
-unfoldable pub marks_by : (ℕ → Bool) → List Refusal → Bool
+unfoldable pub marks_by : (ℕ → Bool) → List Row → Bool
 marks_by rule [] = true
 marks_by rule (y ∷ ys) = same y.marks (rule y.number) and marks_by rule ys
 
 -- So does the first, if it says so of no accepted call.
-pub first_marks : (rule : ℕ → Bool) (xs : List Refusal) → rule 0 ≡ false → marks_by rule xs ≡ true → (first_row xs).marks ≡ rule (first_of xs)
+pub first_marks : (rule : ℕ → Bool) (xs : List Row) → rule 0 ≡ false → marks_by rule xs ≡ true → (first_row xs).marks ≡ rule (first_of xs)
 unfolding first_row marks_by
 first_marks rule [] z h = sym z
 first_marks rule (y ∷ ys) z h =
@@ -155,7 +165,7 @@ unfoldable pub each : (ℕ → Bool) → List ℕ → Bool
 each test [] = true
 each test (n ∷ ns) = test n and each test ns
 
-pub marking_by : (test : ℕ → Bool) (m : Bool) (xs : List Refusal) → each test (numbers xs) ≡ true → marks_by (λ n. test n and m) (map (marking m) xs) ≡ true
+pub marking_by : (test : ℕ → Bool) (m : Bool) (xs : List Row) → each test (numbers xs) ≡ true → marks_by (λ n. test n and m) (map (marking m) xs) ≡ true
 unfolding marks_by each
 marking_by test m [] h = refl
 marking_by test m (y ∷ ys) h =
@@ -163,13 +173,13 @@ marking_by test m (y ∷ ys) h =
     (marking_by test m ys (and_right (test y.number) (each test (numbers ys)) h))
 
 -- Rows that mark nobody, in front of others.
-abbrev pub nobody : List Refusal → Bool
+abbrev pub nobody : List Row → Bool
 nobody = marks_by (λ x. false)
 
-pub unmarked : (xs : List Refusal) → nobody xs ≡ true → (first_row xs).marks ≡ false
+pub unmarked : (xs : List Row) → nobody xs ≡ true → (first_row xs).marks ≡ false
 unmarked xs h = first_marks (λ x. false) xs refl h
 
 -- Where the first row marks the sender heard, it is behind them.
-pub marked_behind : (xs ys : List Refusal) → nobody xs ≡ true → (first_row (xs ++ ys)).marks ≡ true → none xs ≡ true
+pub marked_behind : (xs ys : List Row) → nobody xs ≡ true → (first_row (xs ++ ys)).marks ≡ true → none xs ≡ true
 marked_behind xs ys h e =
     ⊎_elim (λ n. n) (λ n. absurd (true≢false (sym e ∙ ap (λ r. r.marks) (first_before xs ys n) ∙ unmarked xs h))) (decide (none xs))

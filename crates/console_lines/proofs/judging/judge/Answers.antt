@@ -1,36 +1,49 @@
--- `judge` judges a line: each way out is one test of the chain. Assumes nothing.
-use mathlib.Core.Path.{sym, ap, ◌∙◌}
-use borrow.Author.Tests.{lt-ltb, le-ltb}
-use Rattle.console_lines.specs.Judging.{judged_word, judged}
+use Rattle.std.proofs.Common.{sym, ap, ◌∙◌, length}
+use Rattle.console_lines.specs.Items.{place_at, place_out}
+use Rattle.console_lines.specs.Judging.{bad_byte, bad_space, judged_begin, judged}
 use Rattle.console_lines.proofs.judging.judge.Goals as goal
 
 pub returns-then-is_quiet : goal.returns-then-is_quiet
 unfolding judged
 returns-then-is_quiet c = rw (sym c.is_quiet.ensures ∙ c.if-is_quiet.true)
 
-pub returns-then-i-line : goal.returns-then-i-line
+pub returns-in-Some : goal.returns-in-Some
 unfolding judged
-returns-then-i-line c = rw (sym c.is_quiet.ensures ∙ c.if-is_quiet.false, sym c.bad_byte-i.ensures, lt-ltb _ _ c.if-i-line.true)
+returns-in-Some c =
+    let b = c.args.line.now in
+    let there = place_at (length b) (bad_byte b) (sym c.in-Some.is ∙ c.bad_byte.ensures) in
+    rw (sym c.is_quiet.ensures ∙ c.if-is_quiet.false, there.0, there.1)
 
-pub returns-then-i-line-2 : goal.returns-then-i-line-2
+pub returns-in-Some-bad_space : goal.returns-in-Some-bad_space
 unfolding judged
-returns-then-i-line-2 c =
+returns-in-Some-bad_space c =
+    let b = c.args.line.now in
+    let there = place_at (length b) (bad_space b) (sym c.in-Some-bad_space.is ∙ c.bad_space.ensures) in
     rw (
       sym c.is_quiet.ensures ∙ c.if-is_quiet.false,
-      sym c.bad_byte-i.ensures,
-      le-ltb _ _ c.if-i-line.false,
-      sym c.bad_space-i.ensures,
-      lt-ltb _ _ c.if-i-line-2.true,
+      place_out (length b) (bad_byte b) (sym c.in_default.is ∙ c.bad_byte.ensures),
+      there.0,
+      there.1,
     )
 
-pub returns : goal.returns
+pub returns-in-Some-word_of : goal.returns-in-Some-word_of
 unfolding judged
-returns c =
+returns-in-Some-word_of c =
+    let b = c.args.line.now in
     rw (
       sym c.is_quiet.ensures ∙ c.if-is_quiet.false,
-      sym c.bad_byte-i.ensures,
-      le-ltb _ _ c.if-i-line.false,
-      sym c.bad_space-i.ensures,
-      le-ltb _ _ c.if-i-line-2.false,
+      place_out (length b) (bad_byte b) (sym c.in_default.is ∙ c.bad_byte.ensures),
+      place_out (length b) (bad_space b) (sym c.in_default-bad_space.is ∙ c.bad_space.ensures),
     )
-    (c.judge_word.ensures ∙ ap (judged_word _) c.word_of-word.ensures)
+    (c.judge_word.ensures ∙ ap (judged_begin b) (sym c.in-Some-word_of.is ∙ c.word_of.ensures))
+
+pub returns-in-None : goal.returns-in-None
+unfolding judged
+returns-in-None c =
+    let b = c.args.line.now in
+    rw (
+      sym c.is_quiet.ensures ∙ c.if-is_quiet.false,
+      place_out (length b) (bad_byte b) (sym c.in_default.is ∙ c.bad_byte.ensures),
+      place_out (length b) (bad_space b) (sym c.in_default-bad_space.is ∙ c.bad_space.ensures),
+    )
+    (ap (judged_begin b) (sym c.in-None.is ∙ c.word_of.ensures))

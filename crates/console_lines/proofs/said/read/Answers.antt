@@ -1,22 +1,21 @@
--- `read` says what the judgement of the line says. Assumes nothing.
-use mathlib.Core.Path.{refl, sym}
-use Rattle.console_lines.specs.declared.judging.Judged.TheVariants.{Quiet, Bad, Takes}
+use Rattle.std.proofs.Common.{Some, None, Ok, Err, sym, ap, ◌∙◌, refl}
 use Rattle.console_lines.specs.Laws.{judged_formed, spoken}
 use Rattle.console_lines.proofs.said.read.Goals as goal
 
 pub command-requires : goal.command-requires
 command-requires c =
-    record { lent = c.requires; formed = judged_formed c.args.line.now _ (sym c.in-Takes.ensures) }
+    record { lent = c.requires; formed = judged_formed c.args.line.now _ (sym c.judge.ensures ∙ c.in-Ok-Some.is ∙ ap Ok c.in-Ok-Some.field-0-is) }
 
-pub returns-in-Quiet : goal.returns-in-Quiet
-returns-in-Quiet c =
-    spoken c.args.line.now c.requires.short Quiet (sym c.in-Quiet.ensures) (record { answers = refl; coins_put = refl; bytes_put = refl })
-
-pub returns-in-Bad : goal.returns-in-Bad
-returns-in-Bad c =
-    spoken c.args.line.now c.requires.short (Bad c.in-Bad.reason) (sym c.in-Bad.ensures)
+pub returns-in-Ok-None : goal.returns-in-Ok-None
+returns-in-Ok-None c =
+    spoken c.args.line.now c.requires.short (Ok None) (sym c.judge.ensures ∙ c.in-Ok-None.is ∙ ap Ok c.in-Ok-None.field-0-is)
     (record { answers = refl; coins_put = refl; bytes_put = refl })
 
-pub returns-in-Takes : goal.returns-in-Takes
-returns-in-Takes c =
-    spoken c.args.line.now c.requires.short (Takes c.in-Takes.word) (sym c.in-Takes.ensures) c.command.ensures
+pub returns-in-Ok-Some : goal.returns-in-Ok-Some
+returns-in-Ok-Some c =
+    spoken c.args.line.now c.requires.short (Ok (Some c.in-Ok-Some.word)) (sym c.judge.ensures ∙ c.in-Ok-Some.is ∙ ap Ok c.in-Ok-Some.field-0-is) c.command.ensures
+
+pub returns-in-Err : goal.returns-in-Err
+returns-in-Err c =
+    spoken c.args.line.now c.requires.short (Err c.in-Err.reason) (sym c.judge.ensures ∙ c.in-Err.is)
+    (record { answers = refl; coins_put = refl; bytes_put = refl })

@@ -13,16 +13,17 @@ within b m e = sym (length-take-le _ _ (omega (arith, e, line_start_le b (m + 2)
 pub slice_bounds-first_line_keeps-end : goal.slice_bounds-first_line_keeps-end
 slice_bounds-first_line_keeps-end c = within c.args.b.now c.args.m c.line_start-end.ensures
 
-pub returns-then-not-first_line_keeps : goal.returns-then-not-first_line_keeps
-unfolding front_keeps
-returns-then-not-first_line_keeps c =
-    rw (ap (λ e. first_line_keeps (take e c.args.b.now)) (sym c.line_start-end.ensures) ∙ sym c.if-not-first_line_keeps.ensures)
-
 pub slice_bounds-rest_keeps-end : goal.slice_bounds-rest_keeps-end
 slice_bounds-rest_keeps-end c = within c.args.b.now c.args.m c.line_start-end.ensures
 
-pub returns : goal.returns
+pub returns-then-first_line_keeps : goal.returns-then-first_line_keeps
 unfolding front_keeps
-returns c =
-    rw (ap (λ e. first_line_keeps (take e c.args.b.now)) (sym c.line_start-end.ensures) ∙ sym c.if-not-first_line_keeps.ensures)
+returns-then-first_line_keeps c =
+    rw (ap (λ e. first_line_keeps (take e c.args.b.now)) (sym c.line_start-end.ensures) ∙ sym c.if-first_line_keeps.ensures)
     (c.rest_keeps.ensures ∙ ap (λ e. rest_keeps (take e c.args.b.now) c.args.m c.args.k) c.line_start-end.ensures)
+
+pub returns-else-first_line_keeps : goal.returns-else-first_line_keeps
+unfolding front_keeps
+returns-else-first_line_keeps c =
+    let failed = sym c.first_line_keeps.ensures ∙ c.if-first_line_keeps.false in
+    c.if-first_line_keeps.false ∙ sym (rw (ap (λ e. first_line_keeps (take e c.args.b.now)) (sym c.line_start-end.ensures) ∙ failed))

@@ -1,7 +1,6 @@
--- `behind_line` is where the line behind the one from i on starts. Assumes nothing.
-use Rattle.std.proofs.Common.{sym, ap, ◌∙◌, ◌+◌, length}
-use lib.Dec.{leb}
-use borrow.Author.Tests.{le-leb, lt-leb}
+use Rattle.std.proofs.Common.{◌+◌, leb, sym, ap, ◌∙◌, length}
+use Rattle.std.proofs.Common.{le-leb}
+use Rattle.std.proofs.lemmas.Bool.{lt-leb}
 use Rattle.rules.specs.Text.{text}
 use Rattle.sheet_reasons.specs.Lines.{behind_line}
 use Rattle.sheet_reasons.proofs.lines.behind_line.Goals as goal
@@ -10,7 +9,7 @@ pub returns-then-b-end : goal.returns-then-b-end
 unfolding behind_line text
 returns-then-b-end c = rw (ap (leb (length c.args.b.now)) (sym c.first_word-end.ensures) ∙ le-leb _ _ c.if-b-end.true) c.first_word-end.ensures
 
-pub returns : goal.returns
+pub returns-else-b-end : goal.returns-else-b-end
 unfolding behind_line text
-returns c =
+returns-else-b-end c =
     rw (ap (leb (length c.args.b.now)) (sym c.first_word-end.ensures) ∙ lt-leb _ _ c.if-b-end.false) (ap (λ e. e + 1) c.first_word-end.ensures)

@@ -1,17 +1,14 @@
--- `other_box` tests whether a line starts with another number than a box's. Assumes nothing.
-use Rattle.std.proofs.Common.{sym, ap, ◌∙◌, not}
-use lib.Dec.{eqb}
-use borrow.Author.Tests.{not-true, not-false}
-use Rattle.text.specs.Decimals.{decimal_stands, decimal_number}
+use Rattle.std.proofs.Common.{eqb, not, sym, ap, ◌∙◌}
+use Rattle.text.specs.Decimals.{some_decimal, none_decimal}
 use Rattle.sheet_reasons.specs.Reasons.{other_box}
 use Rattle.sheet_reasons.proofs.reasons.other_box.Goals as goal
 
-pub returns-then-not-x : goal.returns-then-not-x
+pub returns-in_default : goal.returns-in_default
 unfolding other_box
-returns-then-not-x c = rw (sym (decimal_stands _ _ c.decimal_at-x.ensures) ∙ not-true _ c.if-not-x.true)
+returns-in_default c = rw (none_decimal _ _ (sym c.in_default.is ∙ c.decimal_at.ensures))
 
 pub returns : goal.returns
 unfolding other_box
 returns c =
-    let stands = sym (decimal_stands _ _ c.decimal_at-x.ensures) ∙ not-false _ c.if-not-x.false in
-    rw stands (ap (λ n. not (eqb n c.args.m)) (decimal_number _ _ c.decimal_at-x.ensures stands))
+    let read = some_decimal _ _ (sym c.in-Some.is ∙ c.decimal_at.ensures) in
+    rw read.stands (ap (λ n. not (eqb n c.args.m)) read.number)

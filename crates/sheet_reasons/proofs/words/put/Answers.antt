@@ -1,29 +1,26 @@
--- `put` puts the line that says why a sheet is bad, or nothing. Assumes nothing.
-use Rattle.std.proofs.Common.{◌++◌, arith}
-use borrow.Author.Tests.{eq-eqb, ne_eqb}
+use Rattle.std.proofs.Common.{◌+◌, ◌++◌, Some, sym, ap, ◌∙◌, refl, arith}
 use Rattle.rules.specs.Text.{text, decimal}
-use Rattle.text.specs.Puts.{puts_word, puts_room, puts_then, puts_then_word}
+use Rattle.text.specs.Puts.{puts_room, puts_then, puts_then_word, puts_word_room}
 use Rattle.sheet_reasons.specs.Reasons.{reason_text, bad_text}
 use Rattle.sheet_reasons.proofs.words.put.Goals as goal
 
-pub returns-then-bad-eq0 : goal.returns-then-bad-eq0
+pub returns-in-None : goal.returns-in-None
 unfolding bad_text
-returns-then-bad-eq0 c =
-    let x = c.sheet_bad-bad.result in
-    rw (← c.sheet_bad-bad.ensures, eq-eqb _ _ c.if-bad-eq0.true)
-    (puts_room c.args.page.now 0 (reason_text x.reason) 50 128 (omega arith) c.put_reason.ensures)
+returns-in-None c = rw (sym c.sheet_bad.ensures ∙ c.in-None.is) (refl, omega arith, refl)
 
-pub returns : goal.returns
+pub returns-in-Some-TooLong : goal.returns-in-Some-TooLong
 unfolding bad_text text
-returns c =
+returns-in-Some-TooLong c =
+    rw (sym c.sheet_bad.ensures ∙ c.in-Some-TooLong.is ∙ ap Some c.in-Some-TooLong.field-0-is)
+    (puts_word_room c.args.page.now 0 (text "sheet: over 4,096 bytes\n") 128 (omega arith) c.put_word.ensures)
+
+pub returns-in-Some-Line : goal.returns-in-Some-Line
+unfolding bad_text text
+returns-in-Some-Line c =
     let page = c.args.page.now in
-    let x = c.sheet_bad-bad.result in
-    let a = text "sheet: line " in
-    let line = a ++ decimal x.line in
-    rw (← c.sheet_bad-bad.ensures, ne_eqb _ _ c.if-bad-eq0.false)
-    (puts_room page 0 (line ++ text ": " ++ reason_text x.reason) 69 128 (omega arith)
-    (puts_then page 0 (line ++ text ": ") (reason_text x.reason) 19 50
-    (puts_then_word page 0 line (text ": ") 17
-    (puts_then page 0 a (decimal x.line) 12 5 (puts_word page 0 a c.put_word-next.ensures) c.put_decimal-next.ensures)
-    c.put_word-next-2.ensures)
-    c.put_reason-2.ensures))
+    let line = text "sheet: line " ++ decimal (c.in-Some-Line.before + 1) in
+    rw (sym c.sheet_bad.ensures ∙ c.in-Some-Line.is ∙ ap Some c.in-Some-Line.field-0-is)
+    (puts_room page 0 (line ++ text ": " ++ reason_text c.in-Some-Line.reason) 69 128 (omega arith)
+    (puts_then page 0 (line ++ text ": ") (reason_text c.in-Some-Line.reason) 19 50
+    (puts_then_word page 0 line (text ": ") 17 (rw c.from-number.ensures at c.put_numbered-next.ensures) c.put_word-next.ensures)
+    c.put_reason.ensures))

@@ -4,15 +4,10 @@ use Rattle.rules.specs.Text.{text}
 use Rattle.text.specs.Puts.{puts_word_room}
 use Rattle.sheet_reasons.proofs.words.put_reason.Goals as goal
 
-pub returns-in-TooLong : goal.returns-in-TooLong
-unfolding text
-returns-in-TooLong c =
-    rw c.in-TooLong.is (puts_word_room c.args.page.now c.args.at (text "sheet: over 4,096 bytes\n") 50 (omega arith) c.put_word.ensures)
-
 pub returns-in-Missing : goal.returns-in-Missing
 unfolding text
 returns-in-Missing c =
-    rw c.in-Missing.is (puts_word_room c.args.page.now c.args.at (text "missing\n") 50 (omega arith) c.put_word-in-Missing.ensures)
+    rw c.in-Missing.is (puts_word_room c.args.page.now c.args.at (text "missing\n") 50 (omega arith) c.put_word.ensures)
 
 pub returns-in-CarriageReturn : goal.returns-in-CarriageReturn
 unfolding text

@@ -1,2 +1,0 @@
--- What only a reader names.
-pub mod Reading
