@@ -6,6 +6,7 @@ pub mod showing;
 
 ghost use Rattle.std.specs.Iterator.{IsFinite};
 
+use arrayvec::ArrayVec;
 use rules::{Answer, Element, Pair, Sent};
 
 // On standard output; a program that cannot write says so, each time that it tries.
@@ -92,11 +93,11 @@ fn message(j: usize, bytes: &[u8]) {
     if 256 < bytes.len() {
         return;
     }
-    let mut space = [0u8; 512];
-    let n = text::hexadecimal::put_hex(&mut space, 0, bytes, 0, bytes.len());
+    let mut page = ArrayVec::<u8, 512>::new();
+    text::page::put_hex(&mut page, bytes);
     numbered(b"to ", j);
     words(b" ");
-    words(&space[..n]);
+    words(page.as_slice());
     words(b"\n");
 }
 
