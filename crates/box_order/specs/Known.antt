@@ -20,11 +20,14 @@ use Rattle.box_refusals.specs.Known.{InForm}
 
 -- The test of the first table stops at a refusal, else that of the second goes on.
 module _ (xs ys : List Row) (d : lacks 0 (numbers xs) ≡ true) {r : Result Unit Refusal} (is : refusal_of r ≡ first_of xs) where
+  pub stays : {e : Refusal} → r ≡ Err e → refusal_of r ≡ first_of (xs ++ ys)
+  stays {e} at = ap refusal_of at ∙ stops xs ys d (sym (ap refusal_of at) ∙ is) (refusal_some e)
+
   -- s is what `?` hands on
   pub stopped : {e : Refusal} → r ≡ Err e → (s : Result Unit Refusal) → IsErrAnd s (λ e'. e' ≡ e) → refusal_of s ≡ first_of (xs ++ ys)
-  stopped {e} at s same =
+  stopped at s same =
       let p = err_from_is_err_and s same in
-      ap refusal_of p.1 ∙ ap refusal_number p.2 ∙ stops xs ys d (sym (ap refusal_of at) ∙ is) (refusal_some e)
+      ap refusal_of p.1 ∙ ap refusal_number p.2 ∙ sym (ap refusal_of at) ∙ stays at
 
   pub followed : {v : Unit} → r ≡ Ok v → {n : ℕ} → n ≡ first_of ys → n ≡ first_of (xs ++ ys)
   followed none e = goes_on xs ys d (sym (ap refusal_of none) ∙ is) refl e
