@@ -47,7 +47,7 @@ fn put_told<const N: usize>(page: &mut ArrayVec<u8, N>, a: Answer)
     requires { array_vec_len page.old + 42 ≤ N }
     ensures { Adds page.old (told_text a) 42 page.new }
 {
-    text::page::put_numbered(page, b"answer ", a.no as u16);
+    text::page::put_numbered(page, b"answer ", u16::from(a.no));
     put_sent(page, a.sent);
     text::page::put_word(page, b" ");
     crate::numbers::put_number(page, a.bytes);

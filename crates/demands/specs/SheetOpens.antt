@@ -16,6 +16,7 @@ use Rattle.rules.specs.declared.Group.{Group}
 use Rattle.std.specs.Prelude.{Option, Some, None, is_some}
 use Rattle.rules.specs.declared.Pair.{Pair}
 use Rattle.rules.specs.declared.Verdict.TheVariants.{Verified, Refused}
+use Rattle.rules.specs.declared.Refusal.TheVariants.{ExponentHigh, CheckFails}
 use Rattle.rules.specs.Numbers.{group_of}
 use Rattle.rules.specs.Matrices.{entry}
 use Rattle.rules.specs.Dealing.{committed, pair_below, share_check}
@@ -37,7 +38,7 @@ module _ (G : Group) (k : ℕ) (C : List (List Element)) (m : ℕ) where
   verified_passes (Some s) p e = go (pair_below G.q s) (share_check G k C m s) refl e
     where
       go : (a b : Bool) → share_check G k C m s ≡ b
-          → pick (is_verified (pick (not a) (Refused 9) (pick (not b) (Refused 10) Verified))) (Some s) None ≡ Some p
+          → pick (is_verified (pick (not a) (Refused ExponentHigh) (pick (not b) (Refused CheckFails) Verified))) (Some s) None ≡ Some p
           → (Some s ≡ Some p) × (share_check G k C m p ≡ true)
       go true true h e = let same : s ≡ p = cc in (e, rw same at h)
       go true false h e = absurd (true≢false (sym (ap is_some e)))

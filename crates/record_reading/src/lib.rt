@@ -23,7 +23,7 @@ pub fn is_heard(x: Record, tag: u8, m: usize) -> bool
     requires { HasMark tag m }
     ensures { result ≡ heard_for x tag m }
 {
-    x.heard[tag as usize - 1].at[m]
+    x.heard[usize::from(tag) - 1].at[m]
 }
 
 // How many recovery shares are kept.

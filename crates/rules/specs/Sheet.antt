@@ -16,6 +16,8 @@ use Rattle.rules.specs.declared.Pair.{Pair}
 use Rattle.rules.specs.declared.SetUp.{SetUp}
 use Rattle.rules.specs.declared.Verdict.{Verdict}
 use Rattle.rules.specs.declared.Verdict.TheVariants.{Silent, Verified, Refused}
+use Rattle.rules.specs.declared.Refusal.TheVariants.{ExponentHigh, CheckFails}
+use Rattle.rules.specs.Refusals.{refusal_number}
 use Rattle.rules.specs.Numbers.{exponent, element, group_of, group_keeps, sizes_keep}
 use Rattle.rules.specs.Matrices.{matrix}
 use Rattle.rules.specs.Messages.{written}
@@ -93,7 +95,7 @@ rest_keeps b n k =
 -- the share check for box m: "A box's number pair with a number ≥ q prints "refused 9" on its line."
 abbrev pub verdict : Group → ℕ → List (List Element) → ℕ → Option Pair → Verdict
 verdict G k C m None = Silent
-verdict G k C m (Some s) = pick (not (pair_below G.q s)) (Refused 9) (pick (not (share_check G k C m s)) (Refused 10) Verified)
+verdict G k C m (Some s) = pick (not (pair_below G.q s)) (Refused ExponentHigh) (pick (not (share_check G k C m s)) (Refused CheckFails) Verified)
 
 abbrev pub is_verified : Verdict → Bool
 is_verified Silent = false
@@ -112,7 +114,7 @@ verified_shares G k C n shares =
 abbrev pub verdict_text : Verdict → List ℕ
 verdict_text Silent = text "silent\n"
 verdict_text Verified = text "verified\n"
-verdict_text (Refused x) = text "refused " ++ decimal x ++ text "\n"
+verdict_text (Refused x) = text "refused " ++ decimal (refusal_number x) ++ text "\n"
 
 -- "One line a box"
 unfoldable pub box_lines : Group → ℕ → List (List Element) → ℕ → List (Option Pair) → List ℕ

@@ -84,6 +84,7 @@ impl Group {
     ];
 
     // Group 1 stands at 0.
+    #[tactic(auto, unfolding(crate::specs::Numbers::groups))]
     pub fn at(place: usize) -> Group
         requires { place < 2 }
         ensures { result ≡ get_or groups place no_group }
@@ -120,13 +121,12 @@ impl SetUp {
     pub const LENT: usize = 2_048;
 
     // The echo quorum E.
+    #[tactic(auto, unfolding(crate::specs::Numbers::echo_quorum))]
     pub fn echo_quorum(self) -> u32
         requires { (self.n ≤ 10) × (self.t ≤ 10) }
         ensures { result ≡ echo_quorum self }
     {
-        let half = (self.n + self.t + 2) / 2;
-        let k = self.k;
-        if k <= half { half } else { k }
+        self.k.max((self.n + self.t + 2) / 2)
     }
 }
 
@@ -333,10 +333,10 @@ pub struct Outcome {
 
 // ---- The recovery sheet
 
-// What the sheet says of a box: silent, verified, or refused with this number.
+// What the sheet says of a box: silent, verified, or refused.
 #[derive(Clone, Copy)]
 pub enum Verdict {
     Silent,
     Verified,
-    Refused(u8),
+    Refused(Refusal),
 }

@@ -88,7 +88,7 @@ fn other_box(b: &[u8], i: usize, m: usize) -> bool
     let Some(x) = text::read::decimal_at(b, i) else {
         return false;
     };
-    x.number as usize != m
+    usize::from(x.number) != m
 }
 
 // Of the line of box m.

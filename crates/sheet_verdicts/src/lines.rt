@@ -20,8 +20,8 @@ fn put_verdict<const N: usize>(page: &mut ArrayVec<u8, N>, verdict: Verdict)
     match verdict {
         Verdict::Silent => text::page::put_word(page, b"silent\n"),
         Verdict::Verified => text::page::put_word(page, b"verified\n"),
-        Verdict::Refused(x) => {
-            text::page::put_numbered(page, b"refused ", u16::from(x));
+        Verdict::Refused(refusal) => {
+            text::page::put_numbered(page, b"refused ", u16::from(refusal.number()));
             text::page::put_word(page, b"\n");
         }
     }

@@ -4,16 +4,16 @@ ghost use Rattle.rules.specs.Sheet.{verdict, verified_shares};
 ghost use Rattle.sheet_verdicts.specs.Verdicts.{verdict_on, verified_on};
 
 use crate::Judged;
-use rules::{Pair, SetUp, Verdict};
+use rules::{Pair, Refusal, SetUp, Verdict};
 
 impl Judged {
     fn on_pair(&self, m: u16, pair: Pair) -> Verdict
         ensures { result ≡ verdict self.now.group self.now.k self.now.c m (Some pair) }
     {
         if !checking::pair_below(self.group.q, pair) {
-            Verdict::Refused(9)
+            Verdict::Refused(Refusal::ExponentHigh)
         } else if !checking::share_check(self.group, self.k, self.c, m, pair) {
-            Verdict::Refused(10)
+            Verdict::Refused(Refusal::CheckFails)
         } else {
             Verdict::Verified
         }

@@ -1,16 +1,12 @@
-// Hexadecimal in small letters, two digits a byte.
+// Hexadecimal in small letters, two digits a byte: reading. `page` puts it.
 ghost use Rattle.std.specs.Prelude.{◌≡◌, true, ◌+◌, ◌*◌, ◌≤◌, ◌<◌, length};
 ghost use Rattle.std.proofs.lemmas.List.Edits.{sets};
-ghost use Rattle.text.specs.Puts.{Puts};
 ghost use Rattle.text.specs.Hexadecimal.{
   is_hex_digit,
   hex_digit,
   hex_at,
   hex_said,
   hex_bytes,
-  glyph,
-  hex_pair,
-  hex_of,
 };
 
 fn is_hex_digit(x: u8) -> bool
@@ -55,33 +51,4 @@ pub fn read_hex(b: &[u8], i: usize, n: usize, out: &mut [u8])
     for j in 0..n {
         out[j] = hex_byte(b, i + 2 * j);
     }
-}
-
-fn glyph_of(x: u8) -> u8
-    requires { x < 16 }
-    ensures { result ≡ glyph x }
-{
-    if x < 10 { 48 + x } else { 87 + x }
-}
-
-// A byte as two digits.
-fn put_byte(out: &mut [u8], at: usize, x: u8) -> usize
-    requires { at + 2 ≤ length out.old }
-    ensures { Puts out.old at (hex_pair x) 2 result out.new }
-{
-    out[at] = glyph_of(x / 16);
-    out[at + 1] = glyph_of(x % 16);
-    at + 2
-}
-
-// The n bytes from i on, two digits each.
-pub fn put_hex(out: &mut [u8], at: usize, b: &[u8], i: usize, n: usize) -> usize
-    requires { (at + 2 * n ≤ length out.old) × (i + n ≤ length b.now) }
-    ensures { (result ≡ at + 2 * n) × (out.new ≡ sets out.old at (hex_of b.now i n)) }
-{
-    let mut next = at;
-    for j in 0..n {
-        next = put_byte(out, next, b[i + j]);
-    }
-    next
 }
