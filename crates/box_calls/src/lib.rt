@@ -10,46 +10,43 @@ use rules::{Outcome, Record, SetUp};
 pub fn set_up(u: SetUp) -> Outcome
     ensures { SetsUp u result }
 {
-    let no = box_refusals::set_up(u);
-    if no != 0 {
-        return box_step::refuse(record_writing::new_box::zero_record(), no);
+    match box_refusals::set_up(u) {
+        Err(refusal) => box_step::refuse(record_writing::new_box::zero_record(), refusal),
+        Ok(()) => box_step::accept(box_step::quiet(record_writing::new_box::new_record(u))),
     }
-    box_step::accept(box_step::quiet(record_writing::new_box::new_record(u)))
 }
 
 // Refusals 15, 12, 13, 14.
 pub fn deal(x: Record, secret: u32, coins: &[u16], out: &mut [u8]) -> Outcome
     ensures { Deals x secret coins.now out.old result out.new }
 {
-    let no = box_order::deal(x, secret, coins, out.len());
-    if no != 0 {
-        return box_step::refuse(x, no);
+    match box_order::deal(x, secret, coins, out.len()) {
+        Err(refusal) => box_step::refuse(x, refusal),
+        Ok(()) => box_step::accept(box_steps::take_deal(out, x, secret, coins)),
     }
-    box_step::accept(box_steps::take_deal(out, x, secret, coins))
 }
 
 // Refusals 15, 12, 13.
 pub fn command_recovery(x: Record, out: &mut [u8]) -> Outcome
     ensures { Recovers x out.old result out.new }
 {
-    let no = box_order::recover(x, out.len());
-    if no != 0 {
-        return box_step::refuse(x, no);
+    match box_order::recover(x, out.len()) {
+        Err(refusal) => box_step::refuse(x, refusal),
+        Ok(()) => box_step::accept(box_steps::take_command(out, x)),
     }
-    box_step::accept(box_steps::take_command(out, x))
 }
 
 // Refusals 15, 12, then 1 to 10. Those from 8 on mark the sender heard, but for a recovery share.
 pub fn deliver(x: Record, sender: u32, bytes: &[u8], out: &mut [u8]) -> Outcome
     ensures { Delivers x sender bytes.now out.old result out.new }
 {
-    let early = box_order::early(x, sender, bytes, out.len());
-    if early != 0 {
-        return box_step::refuse(x, early);
+    if let Err(refusal) = box_order::early(x, sender, bytes, out.len()) {
+        return box_step::refuse(x, refusal);
     }
-    let no = box_hearing::hearing(x, sender, bytes);
-    if no != 0 {
-        return box_step::refuse(box_steps::refused_at_hearing(x, sender, bytes), no);
+    match box_hearing::hearing(x, sender, bytes) {
+        Err(refusal) => {
+            box_step::refuse(box_steps::refused_at_hearing(x, sender, bytes), refusal)
+        }
+        Ok(()) => box_step::accept(box_steps::take(out, x, sender, bytes)),
     }
-    box_step::accept(box_steps::take(out, x, sender, bytes))
 }

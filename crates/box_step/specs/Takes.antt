@@ -2,15 +2,18 @@
 --
 -- In order: the step as code has it; steps that rest; the outcome of a call.
 -- Assumes nothing.
-use Rattle.std.specs.Prelude.{◌≡◌, refl, List, [], ◌≢◌, ℕ, length}
+use Rattle.std.specs.Prelude.{◌≡◌, refl, List, [], ℕ, length, Result, Ok, Err}
 use Rattle.std.proofs.Math.Path.{sym, ap, ap₂}
 use Rattle.std.proofs.Common.{◌∙◌}
 use Rattle.rules.specs.declared.Outcome.{Outcome}
 use Rattle.rules.specs.declared.Record.{Record}
+use Rattle.rules.specs.declared.Refusal.{Refusal}
 use Rattle.rules.specs.Messages.{written}
 use Rattle.rules.specs.Steps.{Step, quiet}
+use Rattle.rules.specs.Refusals.{refusal_number, refusal_of}
 use Rattle.rules.specs.Answers.{done, accepted, refused, answered}
 use Rattle.rules.proofs.Laws.DemandOne.{answered_accepted, answered_refused}
+use Rattle.rules.proofs.Laws.Table.{refusal_some}
 use Rattle.box_step.specs.declared.Step.{Step as Made}
 use Rattle.box_step.specs.Told.{quietly, told}
 
@@ -46,12 +49,16 @@ rests {x} buffer e same = still (quiet x) buffer refl (e ∙ ap quietly same)
 
 -- ---- the outcome of a call
 
--- by the number m, which code computes and tests for 0
-module _ (n : ℕ) (st : Step) (after : Record) (buffer : List ℕ) {o : Outcome} {m : ℕ} (is : m ≡ n) where
-  pub accepts : {s : Made} {buffer' : List ℕ} → m ≡ 0 → Takes st buffer s buffer' → o ≡ told s → done o buffer' ≡ answered n st after buffer
+-- of this number, by what code found of the table
+module _ (n : ℕ) (st : Step) (after : Record) (buffer : List ℕ) {o : Outcome} {r : Result Unit Refusal} (is : refusal_of r ≡ n) where
+  pub accepts : {v : Unit} {s : Made} {buffer' : List ℕ} → r ≡ Ok v → Takes st buffer s buffer' → o ≡ told s
+      → done o buffer' ≡ answered n st after buffer
   unfolding made accepted
-  accepts none t e = ap₂ done (e ∙ ap told t.step) t.wrote ∙ sym (answered_accepted n st after buffer (sym is ∙ none))
+  accepts none t e =
+      ap₂ done (e ∙ ap told t.step) t.wrote ∙ sym (answered_accepted n st after buffer (sym is ∙ ap refusal_of none))
 
-  pub refuses : m ≢ 0 → o ≡ refused m after → done o buffer ≡ answered n st after buffer
-  refuses some e =
-      ap (λ o. done o buffer) (e ∙ ap (λ n. refused n after) is) ∙ sym (answered_refused n st after buffer (λ z. some (is ∙ z)))
+  pub refuses : {e : Refusal} → r ≡ Err e → o ≡ refused (refusal_number e) after → done o buffer ≡ answered n st after buffer
+  refuses {e} some told =
+      let number = sym (ap refusal_of some) ∙ is in
+      ap (λ o. done o buffer) (told ∙ ap (λ n. refused n after) number)
+      ∙ sym (answered_refused n st after buffer (λ z. refusal_some e (number ∙ z)))

@@ -1,22 +1,23 @@
 // Document 01's class: group 1, n 4, t 1, k 2, dealer 1, session 7; secret 5, f and f' of the sums done by hand.
-ghost use Rattle.std.specs.Prelude.{◌≤◌, length};
-
+use crate::room;
+use crate::room::Class;
 use rules::SetUp;
 
-fn play(script: &[u8])
-    requires { length script.now ≤ 1000 }
-{
-    let coins = [3u16, 2, 4, 1, 6, 7, 9];
-    let u = SetUp {
-        group: 1,
-        n: 4,
-        t: 1,
-        k: 2,
-        i: 0,
-        d: 1,
-        session: 7,
+fn play(script: &str) {
+    let class = Class {
+        setup: SetUp {
+            group: 1,
+            n: 4,
+            t: 1,
+            k: 2,
+            i: 0,
+            d: 1,
+            session: 7,
+        },
+        secret: 5,
+        coins: &[3, 2, 4, 1, 6, 7, 9],
     };
-    crate::room::play(u, 5, &coins, script);
+    room::play(class, script);
 }
 
 // Out of order and with repeats. A second deal gets 13. Box 4 gets no send yet; a send to box 1 a second time gets 7. Box 4 hears echoes
@@ -30,7 +31,7 @@ fn play(script: &[u8])
 pub fn class() {
     printing::words(b"a class by hand\n");
     play(
-        b"\
+        "\
         n*. d1. d1. s13 s11 s12 s11 e34 e14 e24 e21 e11 e31 e12 e12 e32 e22 \
         r43 r13 r23 r33 e13 e23 e33 r11 r11 r21 r31 r41 c2. r42 r32 r22 r12 r24 r34 r44 r14 \
         s14 e41 e42 e43 e44 c1. h12 c1. h11 h11 c2. h21 h21 h12 h22 h23 c3. h33 h13 h31 c4. h44 h44 h34 h42 \
@@ -42,5 +43,5 @@ pub fn class() {
 // recovery 6.
 pub fn lent() {
     printing::words(b"a class over lent records\n");
-    play(b"n*. d1. S1* S11 E** R** c1. H12 c2. H11 H11 H21 H21 w*.");
+    play("n*. d1. S1* S11 E** R** c1. H12 c2. H11 H11 H21 H21 w*.");
 }

@@ -6,93 +6,115 @@
 //     s13    box 3 gets what box 1 sent it as a send; e, r, h: an echo, a ready, a recovery share. With S, E, R, H its record is lent
 //     c1.    box 1 is commanded to recover
 //     w*.    what each box holds is shown
-ghost use Rattle.std.specs.Prelude.{◌≤◌, ◌<◌};
-
 use printing::{numbered, words};
-use rules::Answer;
+use rules::{Answer, Sent};
 
-// By this letter, from one box to another; box 1 stands at 0. Letter 0 is no move.
+// The kinds of messages, by their tags.
 #[derive(Clone, Copy)]
-pub struct Move {
-    pub letter: u8,
-    pub from: u8,
-    pub to: u8,
+pub enum Kind {
+    Send = 1,
+    Echo = 2,
+    Ready = 3,
+    Recovery = 4,
 }
 
-fn stands_for(sign: u8, b: u8) -> bool {
-    if sign == b'*' {
-        return true;
+impl Kind {
+    fn said(letter: u8) -> Option<Kind> {
+        match letter {
+            b's' | b'S' => Some(Kind::Send),
+            b'e' | b'E' => Some(Kind::Echo),
+            b'r' | b'R' => Some(Kind::Ready),
+            b'h' | b'H' => Some(Kind::Recovery),
+            _ => None,
+        }
     }
-    sign == b'0' + (b % 10 + 1) % 10
+
+    // Of what was sent, if something was.
+    pub fn of(sent: Sent) -> Option<Kind> {
+        match sent {
+            Sent::Nothing => None,
+            Sent::Send => Some(Kind::Send),
+            Sent::Echo => Some(Kind::Echo),
+            Sent::Ready => Some(Kind::Ready),
+            Sent::Recovery => Some(Kind::Recovery),
+        }
+    }
 }
 
-// A move has 100 turns, one for each two boxes.
-pub fn at(script: &[u8], turn: usize, n: u32) -> Move
-    ensures { (result.from < 10) × (result.to < 10) }
-{
-    let first = turn / 100 * 4;
-    let from = (turn / 10 % 10) as u8;
-    let to = (turn % 10) as u8;
-    let none = Move {
-        letter: 0,
-        from,
-        to,
+impl From<Kind> for Sent {
+    fn from(kind: Kind) -> Sent {
+        match kind {
+            Kind::Send => Sent::Send,
+            Kind::Echo => Sent::Echo,
+            Kind::Ready => Sent::Ready,
+            Kind::Recovery => Sent::Recovery,
+        }
+    }
+}
+
+#[derive(Clone, Copy)]
+pub enum Call {
+    SetUp,
+    Deal { printed: bool },
+    Deliver { kind: Kind, lent: bool },
+    Command,
+}
+
+#[derive(Clone, Copy)]
+pub enum Action {
+    Call(Call),
+    Show,
+}
+
+impl Action {
+    fn said(letter: u8) -> Option<Action> {
+        let call = match letter {
+            b'w' => return Some(Action::Show),
+            b'n' => Call::SetUp,
+            b'd' | b'D' => Call::Deal {
+                printed: letter == b'D',
+            },
+            b'c' => Call::Command,
+            _ => Call::Deliver {
+                kind: Kind::said(letter)?,
+                lent: letter.is_ascii_uppercase(),
+            },
+        };
+        Some(Action::Call(call))
+    }
+}
+
+fn names(sign: u8, i: u32) -> bool {
+    sign == b'*' || sign == b'0' + (i % 10) as u8
+}
+
+// What a move does at these two boxes, if anything.
+pub fn read(said: &str, from: u32, to: u32) -> Option<Action> {
+    let [letter, first, second] = said.as_bytes() else {
+        return None;
     };
-    if script.len() <= first {
-        return none;
-    }
-    if script.len() - first < 3 {
-        return none;
-    }
-    if n <= from as u32 || n <= to as u32 {
-        return none;
-    }
-    if !stands_for(script[first + 1], from) {
-        return none;
-    }
-    let second = script[first + 2];
-    if second == b'.' && from != to {
-        return none;
-    }
-    if second != b'.' && !stands_for(second, to) {
-        return none;
-    }
-    Move {
-        letter: script[first],
-        from,
-        to,
+    let is_second = if *second == b'.' {
+        from == to
+    } else {
+        names(*second, to)
+    };
+    if names(*first, from) && is_second {
+        Action::said(*letter)
+    } else {
+        None
     }
 }
 
-// 0 where nothing is delivered.
-pub fn tag_of(letter: u8) -> u8
-    ensures { result ≤ 4 }
-{
-    match letter {
-        b's' | b'S' => 1,
-        b'e' | b'E' => 2,
-        b'r' | b'R' => 3,
-        b'h' | b'H' => 4,
-        _ => 0,
-    }
-}
-
-// Whether what is delivered finds the record lent.
-pub fn is_lent(letter: u8) -> bool {
-    letter < b'a'
-}
-
-// The line of a move.
-pub fn told(m: Move, answer: Answer) {
-    let letter = m.letter;
-    numbered(b"box ", m.to as usize + 1);
-    match letter {
-        b'n' => words(b" set up"),
-        b'd' | b'D' => words(b" deals"),
-        b'c' => words(b" recovers"),
-        _ => {
-            numbered(b" from ", m.from as usize + 1);
-            printing::tag_word(tag_of(letter));
+// The line of a call.
+pub fn told(call: Call, from: u32, to: u32, answer: Answer) {
+    numbered(b"box ", to as usize);
+    match call {
+        Call::SetUp => words(b" set up"),
+        Call::Deal { .. } => words(b" deals"),
+        Call::Command => words(b" recovers"),
+        Call::Deliver { kind, .. } => {
+            numbered(b" from ", from as usize);
+            printing::sent(Sent::from(kind));
         }
     }
     words(b": ");

@@ -44,15 +44,6 @@ pub fn new_bench() -> Bench {
     }
 }
 
-// A bad line. `console_lines` writes into a slice from a place on, so what it wrote is copied.
-fn bad(reason: Reason, page: &mut ArrayVec<u8, ROOM>)
-    requires { array_vec_len page.old ≡ 0 }
-{
-    let mut space = [0u8; ROOM];
-    let wrote = reasons::put(&mut space, 0, reason);
-    text::page::put_word(page, &space[..wrote]);
-}
-
 // The answer and the messages of a call; what it leaves is the bench's from now on. No more than 4,096 bytes are ever lent.
 fn told(lent: usize, o: Outcome, out: &[u8], page: &mut ArrayVec<u8, ROOM>) -> Turn
     requires { array_vec_len page.old ≡ 0 }
@@ -108,20 +99,19 @@ fn lend(x: Record, lent: usize, page: &mut ArrayVec<u8, ROOM>) -> Turn
     }
 }
 
-// What changes no box: the lines that a word asks for, and none for a comment or an empty line. `console_shows` writes into a
-// slice from a place on, so what it wrote is copied.
+// What changes no box: the lines that a word asks for, and none for a comment or an empty line.
 fn lines(x: Record, said: Said, bytes: &[u8], page: &mut ArrayVec<u8, ROOM>)
     requires { Ready said bytes.now × (array_vec_len page.old ≡ 0) }
 {
-    let mut space = [0u8; ROOM];
-    let wrote = match said {
-        Said::Show => console_shows::show::put_show(&mut space, 0, x),
-        Said::Points(place) => console_shows::points::put_points(&mut space, 0, x, place),
-        Said::Help => console_shows::help::put_help(&mut space, 0),
-        Said::HelpOf(n) => console_shows::help::put_answer(&mut space, 0, n as u32),
-        _ => 0,
-    };
-    text::page::put_word(page, &space[..wrote]);
+    match said {
+        Said::Show => console_shows::show::put_show(page, x),
+        Said::Points(place) => console_shows::points::put_points(page, x, place),
+        Said::Read(n) => console_page::reading::put_read(page, &bytes[..n]),
+        Said::Help => console_shows::help::put_help(page),
+        Said::HelpOf(n) => console_shows::help::put_answer(page, n as u32),
+        Said::Bad(reason) => reasons::put(page, reason),
+        _ => {}
+    }
 }
 
 // With the coins and the bytes that the line says, and the buffer that is lent.
@@ -148,8 +138,6 @@ fn call(
         Said::Recover => return recover(bench, out, page),
         Said::Lend(lent) => return lend(bench.x, lent, page),
         Said::Quit => return Turn { bench, ends: true },
-        Said::Read(n) => console_page::reading::put_read(page, &bytes[0..n]),
-        Said::Bad(reason) => bad(reason, page),
         _ => lines(bench.x, said, bytes, page),
     }
     Turn { bench, ends: false }
@@ -178,9 +166,9 @@ pub fn take(bench: Bench, line: Line, space: &[u8], page: &mut ArrayVec<u8, ROOM
     page.clear();
     match line {
         Line::Whole { from, to } => return answer(bench, &space[from..to], page),
-        Line::TooLong => bad(Reason::TooLong, page),
+        Line::TooLong => reasons::put(page, Reason::TooLong),
         Line::Cut => {
-            bad(Reason::CutOff, page);
+            reasons::put(page, Reason::CutOff);
             return Turn { bench, ends: true };
         }
         Line::End => return Turn { bench, ends: true },

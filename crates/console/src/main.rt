@@ -16,16 +16,14 @@ fn written(page: &[u8]) -> bool {
     false
 }
 
-// The turns are counted down, from a number that no run uses up: a proved loop has to end.
+// The turns are counted, to a number that no run uses up: a proved loop has to end.
 fn main(rt: HostRuntime) {
     let input = rt.stdin();
     let mut space = [0u8; 8192];
     let mut page: ArrayVec<u8, { calls::ROOM }> = ArrayVec::new();
     let mut bench = calls::new_bench();
     let mut held = Held { from: 0, to: 0 };
-    let mut turns = u64::MAX;
-    while turns > 0 {
-        turns -= 1;
+    for _ in 0..u64::MAX {
         let next = lines::next_line(input, &mut space, held);
         held = next.held;
         let turn = calls::take(bench, next.line, &space, &mut page);

@@ -3,14 +3,16 @@
 --
 -- In order: the lines; the numbers; laws of the writers.
 -- Assumes nothing.
-use Rattle.std.specs.Prelude.{Bool, List, ◌++◌, ◌≡◌, ℕ, zero, suc, ◌+◌, ◌-◌, ◌<◌, ◌≤◌, length, drop}
+use Rattle.std.specs.Prelude.{Bool, true, false, List, [], ◌++◌, ◌≡◌, ℕ, zero, suc, ◌+◌, ◌-◌, ◌<◌, ◌≤◌, ◌⊎◌, eqb, ltb, length, get_or, drop}
 use Rattle.std.proofs.Math.Path.{refl}
-use Rattle.std.proofs.Common.{add-one, arith}
+use Rattle.std.proofs.Common.{add-one, ap, arith, ltb-false}
+use Rattle.std.proofs.lemmas.List.{get_or_past, nil_from_length}
 use Rattle.std.proofs.Math.ListN.{take, length-take, length-drop}
-use Rattle.folds.specs.Tests.{pick-either}
+use Rattle.arrayvec.specs.ArrayVec.{ArrayVec}
+use Rattle.folds.specs.Tests.{◌and◌, pick-either}
 use Rattle.folds.specs.Below.{first_from, first_from_le}
 use Rattle.rules.specs.Text.{text, newline, byte_at}
-use Rattle.text.specs.Puts.{Puts, PutsWord, puts_word_room}
+use Rattle.text.specs.Pages.{Adds, adds_none, adds_room}
 
 unfoldable pub help_lines : List ℕ
 help_lines =
@@ -79,6 +81,14 @@ from_low p (suc n) i =
     pick-either (λ (r : ℕ). i ≤ r) (p i) i (first_from n (i + 1) p) (λ e. omega arith) (λ e. omega arith)
 
 module _ (b : List ℕ) where
+  -- behind the text no newline is read
+  pub newline_at : (j : ℕ) → eqb (get_or b j 0) newline ≡ byte_at b j newline
+  newline_at j = go (ltb j (length b)) refl
+    where
+      go : (t : Bool) → ltb j (length b) ≡ t → eqb (get_or b j 0) newline ≡ t and eqb (get_or b j 0) newline
+      go true e = refl
+      go false e = rw (get_or_past b j 0 (ltb-false j (length b) e)) refl
+
   pub line_end_low : (i : ℕ) → i ≤ line_end b i
   unfolding line_end
   line_end_low i = from_low (λ (j : ℕ). byte_at b j newline) (length b - i) i
@@ -95,20 +105,19 @@ module _ (b : List ℕ) where
   unfolding line_place
   line_place_more n = rw (add-one n)
 
-  -- a line that starts behind the text
-  pub line_none : (n : ℕ) → length b < line_end b (line_place b n) → length (line_of b n) ≡ 0
-  unfolding line_of
-  line_none n l =
-      let start = line_place b n in
-      let high = line_end_high start in
-      omega (arith, length-take (line_end b start - start) (drop start b), length-drop start b)
+  -- a line that starts in the text, and one that starts behind it
+  module _ (n : ℕ) {start end : ℕ} (at : start ≡ line_place b n) (to : end ≡ line_end b start) {page : ArrayVec ℕ} where
+    pub line_added : {line : List ℕ} {page' : ArrayVec ℕ} → line ≡ take (end - start) (drop start b) → Adds page line (length line) page'
+        → Adds page (line_of b n) (length b) page'
+    unfolding line_of
+    line_added e h =
+        rw (← at, ← to, ← e) (adds_room h (omega (arith, ap length e, length-take (end - start) (drop start b), length-drop start b)))
 
-  -- one that starts in it
-  pub line_puts : (page : List ℕ) (at n : ℕ) {start end next : ℕ} {page' : List ℕ} → start ≡ line_place b n → end ≡ line_end b start
-      → PutsWord page at (take (end - start) (drop start b)) next page' → Puts page at (line_of b n) (length b) next page'
-  unfolding line_of
-  line_puts page at n {start} {end} {next} {page'} e g h =
-      let w = take (end - start) (drop start b) in
-      let put : Puts page at w (length b) next page' =
-      puts_word_room page at w (length b) (omega (arith, length-take (end - start) (drop start b), length-drop start b)) h in
-      rw (g, e) at put
+    pub line_missed : (end < start) ⊎ (length b < end) → (most : ℕ) → Adds page (line_of b n) most page
+    unfolding line_of
+    line_missed out most =
+        let low = line_end_low start in
+        let high = line_end_high start in
+        let none : take (end - start) (drop start b) ≡ [] =
+        nil_from_length _ (omega (arith, out, to, low, high, length-take (end - start) (drop start b), length-drop start b)) in
+        rw (← at, ← to, none) (adds_none refl most)

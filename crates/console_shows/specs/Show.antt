@@ -4,14 +4,14 @@
 -- recovery shares; the whole; a law of the writers. Every record has its lines. Two of them no sound record has: `completed place S
 -- share none`, where no pair is kept with the completed matrix, and `completed no place`, where there is no such matrix.
 -- Assumes nothing.
-use Rattle.std.specs.Prelude.{Bool, List, [], ◌++◌, map, ◌≡◌, ℕ, ◌<◌, eqb, ltb, get_or}
+use Rattle.std.specs.Prelude.{Bool, List, [], ◌++◌, map, ◌≡◌, ℕ, ◌≤◌, eqb, ltb, get_or, Option, Some, None, is_some}
 use Rattle.std.proofs.Common.{arith}
 use Rattle.folds.specs.Tests.{pick}
 use Rattle.folds.specs.Below.{count_below_le}
 use Rattle.folds.specs.Runs.{gather}
-use Rattle.std.specs.Prelude.{Option, Some, None, is_some}
 use Rattle.rules.specs.declared.Element.{Element}
 use Rattle.rules.specs.declared.Marks.{Marks}
+use Rattle.rules.specs.declared.Pair.{Pair}
 use Rattle.rules.specs.declared.Progress.{Progress}
 use Rattle.rules.specs.declared.Record.{Record}
 use Rattle.rules.specs.declared.SetUp.{SetUp}
@@ -108,8 +108,8 @@ show_lines x =
     ++ place_lines x.setup.k x.slots
     ++ last_lines x.slots x.progress x.shares x.recovered)
 
--- ---- a law of the writers: a count of marks is a number of two digits
+-- ---- a law of the writers: a count of marks is at most ten
 
-pub count_small : (marks : Marks) {n : ℕ} → n ≡ count_marks marks → n < 100000
+pub count_small : (marks : Marks) {n : ℕ} → n ≡ count_marks marks → n ≤ 10
 unfolding count_marks
 count_small marks e = omega (arith, count_below_le (marked marks) 10)

@@ -1,17 +1,19 @@
 // The lines that the console takes, and what the answer numbers mean.
 ghost use Rattle.std.specs.Prelude.{◌≡◌, ◌+◌, ◌≤◌, length};
-ghost use Rattle.text.specs.Puts.{Puts};
+ghost use Rattle.arrayvec.specs.ArrayVec.{array_vec_len};
+ghost use Rattle.text.specs.Pages.{Adds};
 ghost use Rattle.console_shows.specs.Help.{help_lines, line_end, line_place, line_of, help_line};
 
-use text::write::put_word;
+use arrayvec::ArrayVec;
+use text::page::put_word;
 
-pub fn put_help(page: &mut [u8], at: usize) -> usize
-    requires { at + 720 ≤ length page.old }
-    ensures { Puts page.old at help_lines 720 result page.new }
+#[tactic(auto, using(text::specs::Pages::adds_room), unfolding(crate::specs::Help::help_lines, rules::specs::Text::text))]
+pub fn put_help<const N: usize>(page: &mut ArrayVec<u8, N>)
+    requires { array_vec_len page.old + 720 ≤ N }
+    ensures { Adds page.old help_lines 720 page.new }
 {
     put_word(
         page,
-        at,
         b"\
         setup G N T K I D S       a new box: group, n, t, k, its number, dealer, session\n\
         lend L                    the lent buffer has L bytes from now on, 0 to 4096\n\
@@ -24,23 +26,19 @@ pub fn put_help(page: &mut [u8], at: usize) -> usize
         help N                    what answer N means, 0 to 20\n\
         # anything                no answer; neither has an empty line\n\
         quit                      ends the program\n",
-    )
+    );
 }
 
 // ---- the numbers
+//
+// Their lines are one text, as `answer_lines` is: with a constant array of lines the proof did not close.
 
 // Where the line from i on ends.
+#[tactic(auto, using(folds::specs::Below::first_from_same, crate::specs::Help::newline_at), unfolding(crate::specs::Help::line_end, text::specs::Finds::byte_from))]
 fn line_end(b: &[u8], i: usize) -> usize
     ensures { result ≡ line_end b.now i }
 {
-    let mut j = i;
-    while j < b.len() {
-        if text::read::byte_at(b, j, b'\n') {
-            return j;
-        }
-        j += 1;
-    }
-    j
+    text::read::byte_from(b, i, b'\n')
 }
 
 // Where line n starts.
@@ -48,36 +46,33 @@ fn line_place(b: &[u8], n: u32) -> usize
     requires { length b.now ≤ 65535 }
     ensures { result ≡ line_place b.now n }
 {
-    let mut place: usize = 0;
-    let mut l: u32 = 0;
-    while l < n {
+    let mut place = 0;
+    for _ in 0..n {
         place = line_end(b, place) + 1;
-        l += 1;
     }
     place
 }
 
 // Line n without its newline.
-fn put_line(page: &mut [u8], at: usize, b: &[u8], n: u32) -> usize
-    requires { (length b.now ≤ 65535) × (at + length b.now ≤ length page.old) }
-    ensures { Puts page.old at (line_of b.now n) (length b.now) result page.new }
+#[tactic(auto, using(crate::specs::Help::line_added))]
+fn put_line<const N: usize>(page: &mut ArrayVec<u8, N>, b: &[u8], n: u32)
+    requires { (length b.now ≤ 65535) × (array_vec_len page.old + length b.now ≤ N) }
+    ensures { Adds page.old (line_of b.now n) (length b.now) page.new }
 {
     let start = line_place(b, n);
-    let end = line_end(b, start);
-    if b.len() < end {
-        return at;
+    if let Some(line) = b.get(start..line_end(b, start)) {
+        put_word(page, line);
     }
-    put_word(page, at, &b[start..end])
 }
 
 // What answer n means, and what the box did with the message or with its record.
-pub fn put_answer(page: &mut [u8], at: usize, n: u32) -> usize
-    requires { at + 2060 ≤ length page.old }
-    ensures { Puts page.old at (help_line n) 2060 result page.new }
+#[tactic(auto, using(text::specs::Pages::adds_then, text::specs::Pages::adds_room), unfolding(crate::specs::Help::help_line, crate::specs::Help::answer_lines, rules::specs::Text::text))]
+pub fn put_answer<const N: usize>(page: &mut ArrayVec<u8, N>, n: u32)
+    requires { array_vec_len page.old + 2060 ≤ N }
+    ensures { Adds page.old (help_line n) 2060 page.new }
 {
-    let next = put_line(
+    put_line(
         page,
-        at,
         b"\
         answer 0: accepted; the box did what was asked, and a message's sender is heard for its tag from now on\n\
         answer 1: the sender is 0 or above n; the message is dropped and the record is as it was\n\
@@ -102,5 +97,5 @@ pub fn put_answer(page: &mut [u8], at: usize, n: u32) -> usize
         answer 20: no call gives this number yet\n",
         n,
     );
-    put_word(page, next, b"\n")
+    put_word(page, b"\n");
 }

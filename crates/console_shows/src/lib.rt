@@ -1,5 +1,5 @@
 // What the console says of a box: what its record holds, what a place's senders sent, and what the answer numbers mean. Each writer
-// puts its lines onto a page from a place on, of every record, sound or not.
+// adds its lines to a page, of every record, sound or not.
 #![tactic(auto)]
 
 pub mod help;

@@ -1,142 +1,93 @@
-// What the lines are made of. A writer gets the page and a place, and hands the place behind what it put back.
-ghost use Rattle.std.specs.Prelude.{◌≡◌, ◌++◌, ◌+◌, ◌<◌, ◌≤◌, length};
+// What the lines are made of. A writer adds its bytes to the page.
+ghost use Rattle.std.specs.Prelude.{◌++◌, ◌+◌, ◌≤◌, length};
+ghost use Rattle.arrayvec.specs.ArrayVec.{array_vec_len};
 ghost use Rattle.folds.specs.Tests.{pick};
-ghost use Rattle.text.specs.Puts.{Puts};
-ghost use Rattle.console_shows.specs.Parts.{
-  five_digits,
-  wide,
-  least,
-  numbered,
-  widely,
-  box_in,
-  boxes_text,
-  kept_text,
-};
+ghost use Rattle.text.specs.Pages.{Adds};
+ghost use Rattle.console_shows.specs.Parts.{wide, widely, boxes_text, kept_text};
 
-use rules::{Marks, Pair, SetUp};
+use arrayvec::ArrayVec;
+use rules::{Marks, Pair};
+use text::page::{put_digits, put_numbered, put_word};
 
 // ---- numbers
 
-fn put_five(page: &mut [u8], at: usize, x: u32) -> usize
-    requires { at + 5 ≤ length page.old }
-    ensures { Puts page.old at (five_digits x) 5 result page.new }
+// Up to ten digits: a set-up number of any record, sound or not.
+#[tactic(auto, using(crate::specs::Parts::digits_wide))]
+fn put_wide<const N: usize>(page: &mut ArrayVec<u8, N>, x: u32)
+    requires { array_vec_len page.old + 10 ≤ N }
+    ensures { Adds page.old (wide x) 10 page.new }
 {
-    let mut next = at;
-    let mut power: u32 = 10_000;
-    let mut j: usize = 0;
-    while j < 4 {
-        page[next] = (48 + x / power % 10) as u8;
-        next += 1;
-        power /= 10;
-        j += 1;
-    }
-    page[next] = (48 + x % 10) as u8;
-    next + 1
+    put_digits(page, 9, x as usize);
 }
 
-fn put_wide(page: &mut [u8], at: usize, x: u32) -> usize
-    requires { at + 10 ≤ length page.old }
-    ensures { Puts page.old at (wide x) 10 result page.new }
+#[tactic(auto, using(text::specs::Pages::adds_then))]
+pub fn put_widely<const N: usize>(page: &mut ArrayVec<u8, N>, word: &[u8], x: u32)
+    requires { array_vec_len page.old + length word.now + 10 ≤ N }
+    ensures { Adds page.old (widely word.now x) (length word.now + 10) page.new }
 {
-    if x < 100_000 {
-        return text::write::put_decimal(page, at, x);
-    }
-    let next = text::write::put_decimal(page, at, x / 100_000);
-    put_five(page, next, x)
+    put_word(page, word);
+    put_wide(page, x);
 }
 
-// How many of the rows, the columns or the boxes of an array are in use.
-pub fn in_use(x: u32, most: u32) -> usize
-    ensures { (result ≡ least x most) × (result ≤ most) }
-{
-    if x <= most {
-        return x as usize;
-    }
-    most as usize
-}
-
-// ---- a word, and a number behind it
+// ---- a word
 
 // The first of two words where the test holds, and else the second.
-pub fn put_either(page: &mut [u8], at: usize, holds: bool, yes: &[u8], no: &[u8]) -> usize
-    requires { at + length yes.now + length no.now ≤ length page.old }
-    ensures { Puts page.old at (pick holds yes.now no.now) (length yes.now + length no.now) result page.new }
+#[tactic(auto, using(text::specs::Pages::adds_room))]
+pub fn put_either<const N: usize>(page: &mut ArrayVec<u8, N>, holds: bool, yes: &[u8], no: &[u8])
+    requires { array_vec_len page.old + length yes.now + length no.now ≤ N }
+    ensures { Adds page.old (pick holds yes.now no.now) (length yes.now + length no.now) page.new }
 {
-    if holds {
-        return text::write::put_word(page, at, yes);
-    }
-    text::write::put_word(page, at, no)
-}
-
-pub fn put_numbered(page: &mut [u8], at: usize, word: &[u8], x: u32) -> usize
-    requires { (x < 100000) × (at + length word.now + 5 ≤ length page.old) }
-    ensures { Puts page.old at (numbered word.now x) (length word.now + 5) result page.new }
-{
-    let next = text::write::put_word(page, at, word);
-    text::write::put_decimal(page, next, x)
-}
-
-pub fn put_widely(page: &mut [u8], at: usize, word: &[u8], x: u32) -> usize
-    requires { at + length word.now + 10 ≤ length page.old }
-    ensures { Puts page.old at (widely word.now x) (length word.now + 10) result page.new }
-{
-    let next = text::write::put_word(page, at, word);
-    put_wide(page, next, x)
+    put_word(page, if holds { yes } else { no });
 }
 
 // ---- the boxes of a list
 
-// Box m + 1, if it is marked.
-fn put_box(page: &mut [u8], at: usize, marks: Marks, m: usize) -> usize
-    requires { (m < 10) × (at + 6 ≤ length page.old) }
-    ensures { Puts page.old at (box_in marks m) 6 result page.new }
+// The marked boxes, or that there are none.
+#[tactic(auto, using(text::specs::Pages::runs_all, crate::specs::Parts::none_added), unfolding(crate::specs::Parts::boxes_text, rules::specs::Text::text))]
+fn put_boxes<const N: usize>(page: &mut ArrayVec<u8, N>, marks: Marks)
+    requires { array_vec_len page.old + 60 ≤ N }
+    ensures { Adds page.old (boxes_text marks) 60 page.new }
 {
-    if !marks.at[m] {
-        return at;
+    let before = page.len();
+    for (m, &marked) in marks.at.iter().enumerate() {
+        if marked {
+            put_numbered(page, b" ", m as u16 + 1);
+        }
     }
-    put_numbered(page, at, b" ", m as u32 + 1)
-}
-
-fn put_boxes(page: &mut [u8], at: usize, marks: Marks) -> usize
-    requires { at + 60 ≤ length page.old }
-    ensures { Puts page.old at (boxes_text marks) 60 result page.new }
-{
-    let mut next = at;
-    let mut m: usize = 0;
-    while m < SetUp::BOXES {
-        next = put_box(page, next, marks, m);
-        m += 1;
+    if page.len() == before {
+        put_word(page, b" none");
     }
-    if next == at {
-        return text::write::put_word(page, at, b" none");
-    }
-    next
 }
 
 // A word and the boxes behind it.
-pub fn put_listed(page: &mut [u8], at: usize, word: &[u8], marks: Marks) -> usize
-    requires { at + length word.now + 60 ≤ length page.old }
-    ensures { Puts page.old at (word.now ++ boxes_text marks) (length word.now + 60) result page.new }
+#[tactic(auto, using(text::specs::Pages::adds_then))]
+pub fn put_listed<const N: usize>(page: &mut ArrayVec<u8, N>, word: &[u8], marks: Marks)
+    requires { array_vec_len page.old + length word.now + 60 ≤ N }
+    ensures { Adds page.old (word.now ++ boxes_text marks) (length word.now + 60) page.new }
 {
-    let next = text::write::put_word(page, at, word);
-    put_boxes(page, next, marks)
+    put_word(page, word);
+    put_boxes(page, marks);
 }
 
 // ---- a pair
 
 // A word and the pair that is kept; or the line that there is none.
-pub fn put_kept(page: &mut [u8], at: usize, word: &[u8], none: &[u8], keep: Option<Pair>) -> usize
-    requires { at + length word.now + length none.now + 12 ≤ length page.old }
-    ensures { Puts page.old at (kept_text word.now none.now keep.kept) (length word.now + length none.now + 12) result page.new }
+#[tactic(auto, using(text::specs::Pages::adds_then, text::specs::Pages::adds_room), unfolding(rules::specs::Text::text))]
+pub fn put_kept<const N: usize>(
+    page: &mut ArrayVec<u8, N>,
+    word: &[u8],
+    none: &[u8],
+    kept: Option<Pair>,
+)
+    requires { array_vec_len page.old + length word.now + length none.now + 12 ≤ N }
+    ensures { Adds page.old (kept_text word.now none.now kept) (length word.now + length none.now + 12) page.new }
 {
-    match keep {
-        None => text::write::put_word(page, at, none),
+    match kept {
+        None => put_word(page, none),
         Some(pair) => {
-            let first = pair.first;
-            let second = pair.second;
-            let next = put_numbered(page, at, word, first.0 as u32);
-            let next = put_numbered(page, next, b" ", second.0 as u32);
-            text::write::put_word(page, next, b"\n")
+            put_numbered(page, word, pair.first.0);
+            put_numbered(page, b" ", pair.second.0);
+            put_word(page, b"\n");
         }
     }
 }

@@ -1,95 +1,62 @@
 // The places in use, a line each: a place's counts and its matrix.
-ghost use Rattle.std.specs.Prelude.{[], ◌+◌, ◌<◌, ◌≤◌, length};
-ghost use Rattle.folds.specs.Tests.{pick};
-ghost use Rattle.text.specs.Puts.{Puts};
-ghost use Rattle.console_shows.specs.Show.{
-  row_text,
-  matrix_text,
-  counts_text,
-  place_line,
-  place_lines,
-};
+ghost use Rattle.std.specs.Prelude.{◌+◌, ◌<◌, ◌≤◌};
+ghost use Rattle.arrayvec.specs.ArrayVec.{array_vec_len};
+ghost use Rattle.text.specs.Pages.{Adds};
+ghost use Rattle.console_shows.specs.Show.{row_text, matrix_text, counts_text, place_line, place_lines};
 
-use crate::parts::{in_use, put_numbered};
+use arrayvec::ArrayVec;
+use record_reading::count_marks;
 use rules::{Element, SetUp, Slot};
-use text::write::put_word;
+use text::page::{put_numbered, put_numbers, put_word};
 
 // As many entries of a row as the matrix has columns in use.
-fn put_row(page: &mut [u8], at: usize, width: usize, row: [Element; 8]) -> usize
-    requires { (width ≤ 8) × (at + 48 ≤ length page.old) }
-    ensures { Puts page.old at (row_text width row) 48 result page.new }
+fn put_row<const N: usize>(page: &mut ArrayVec<u8, N>, width: usize, row: [Element; 8])
+    requires { (width ≤ 8) × (array_vec_len page.old + 48 ≤ N) }
+    ensures { Adds page.old (row_text width row) 48 page.new }
 {
-    let mut next = at;
-    let mut l: usize = 0;
-    while l < width {
-        let e = row[l];
-        next = put_numbered(page, next, b" ", e.0 as u32);
-        l += 1;
+    put_numbers(page, &row.map(|x| x.0)[..width]);
+}
+
+#[tactic(auto, using(text::specs::Pages::runs_all, crate::specs::Parts::min_least), unfolding(crate::specs::Show::matrix_text))]
+fn put_matrix<const N: usize>(page: &mut ArrayVec<u8, N>, k: u32, c: [[Element; 8]; 8])
+    requires { array_vec_len page.old + 384 ≤ N }
+    ensures { Adds page.old (matrix_text k c) 384 page.new }
+{
+    let width = (k as usize).min(SetUp::WIDTH);
+    for row in &c[..width] {
+        put_row(page, width, *row);
     }
-    next
 }
 
-fn put_matrix(page: &mut [u8], at: usize, k: u32, c: [[Element; 8]; 8]) -> usize
-    requires { at + 384 ≤ length page.old }
-    ensures { Puts page.old at (matrix_text k c) 384 result page.new }
+#[tactic(auto, using(text::specs::Pages::adds_then, crate::specs::Show::count_small), unfolding(crate::specs::Show::counts_text, rules::specs::Record::count_e, rules::specs::Record::count_r, record_reading::specs::Slots::count_marks, rules::specs::Text::text))]
+fn put_counts<const N: usize>(page: &mut ArrayVec<u8, N>, s: usize, slot: Slot)
+    requires { (s < 20) × (array_vec_len page.old + 27 ≤ N) }
+    ensures { Adds page.old (counts_text s slot) 27 page.new }
 {
-    let width = in_use(k, 8);
-    let mut next = at;
-    let mut j: usize = 0;
-    while j < width {
-        let row = c[j];
-        next = put_row(page, next, width, row);
-        j += 1;
+    put_numbered(page, b"place ", s as u16);
+    put_numbered(page, b" e ", count_marks(slot.echoed) as u16);
+    put_numbered(page, b" r ", count_marks(slot.readied) as u16);
+}
+
+#[tactic(auto, using(text::specs::Pages::adds_then), unfolding(crate::specs::Show::place_line, rules::specs::Record::matrix_of, rules::specs::Text::text))]
+fn put_place<const N: usize>(page: &mut ArrayVec<u8, N>, k: u32, s: usize, slot: Slot)
+    requires { (s < 20) × (array_vec_len page.old + 419 ≤ N) }
+    ensures { Adds page.old (place_line k s slot) 419 page.new }
+{
+    put_counts(page, s, slot);
+    put_word(page, b" matrix");
+    put_matrix(page, k, slot.rows);
+    put_word(page, b"\n");
+}
+
+#[tactic(auto, using(text::specs::Pages::runs_all), unfolding(crate::specs::Show::place_lines))]
+pub fn put_places<const N: usize>(page: &mut ArrayVec<u8, N>, k: u32, slots: [Slot; 20])
+    requires { array_vec_len page.old + 8380 ≤ N }
+    ensures { Adds page.old (place_lines k slots) 8380 page.new }
+{
+    for (s, slot) in slots.iter().enumerate() {
+        if slot.used {
+            put_place(page, k, s, *slot);
+        }
     }
-    next
-}
-
-fn put_counts(page: &mut [u8], at: usize, s: usize, slot: Slot) -> usize
-    requires { (s < 20) × (at + 27 ≤ length page.old) }
-    ensures { Puts page.old at (counts_text s slot) 27 result page.new }
-{
-    let echoed = slot.echoed;
-    let readied = slot.readied;
-    let e = record_reading::count_marks(echoed);
-    let r = record_reading::count_marks(readied);
-    let next = put_numbered(page, at, b"place ", s as u32);
-    let next = put_numbered(page, next, b" e ", e);
-    put_numbered(page, next, b" r ", r)
-}
-
-fn put_place(page: &mut [u8], at: usize, k: u32, s: usize, slot: Slot) -> usize
-    requires { (s < 20) × (at + 419 ≤ length page.old) }
-    ensures { Puts page.old at (place_line k s slot) 419 result page.new }
-{
-    let rows = slot.rows;
-    let c = rows;
-    let next = put_counts(page, at, s, slot);
-    let next = put_word(page, next, b" matrix");
-    let next = put_matrix(page, next, k, c);
-    put_word(page, next, b"\n")
-}
-
-// That of a place in use.
-fn put_if_used(page: &mut [u8], at: usize, k: u32, s: usize, slot: Slot) -> usize
-    requires { (s < 20) × (at + 419 ≤ length page.old) }
-    ensures { Puts page.old at (pick slot.used (place_line k s slot) []) 419 result page.new }
-{
-    if !slot.used {
-        return at;
-    }
-    put_place(page, at, k, s, slot)
-}
-
-pub fn put_places(page: &mut [u8], at: usize, k: u32, slots: [Slot; 20]) -> usize
-    requires { at + 8380 ≤ length page.old }
-    ensures { Puts page.old at (place_lines k slots) 8380 result page.new }
-{
-    let mut next = at;
-    let mut s: usize = 0;
-    while s < SetUp::SLOTS {
-        let slot = slots[s];
-        next = put_if_used(page, next, k, s, slot);
-        s += 1;
-    }
-    next
 }

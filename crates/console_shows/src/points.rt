@@ -1,100 +1,85 @@
 // What the senders' places of one of the 20 places hold, a line a box.
-ghost use Rattle.std.specs.Prelude.{◌+◌, ◌<◌, ◌≤◌, length};
-ghost use Rattle.text.specs.Puts.{Puts};
-ghost use Rattle.console_shows.specs.Points.{
-  four_text,
-  marks_text,
-  point_text,
-  point_line,
-  point_lines,
-  points_lines,
-};
+ghost use Rattle.std.specs.Prelude.{◌+◌, ◌<◌, ◌≤◌};
+ghost use Rattle.arrayvec.specs.ArrayVec.{array_vec_len};
+ghost use Rattle.text.specs.Pages.{Adds};
+ghost use Rattle.console_shows.specs.Points.{four_text, marks_text, point_text, point_line, point_lines, points_lines};
 
-use crate::parts::{in_use, put_either, put_numbered};
-use rules::{Four, Place, Point, Record, SetUp, Slot};
-use text::write::{put_decimal, put_word};
+use crate::parts::put_either;
+use arrayvec::ArrayVec;
+use rules::{Four, Point, Record, SetUp, Slot};
+use text::page::{put_decimal, put_numbered, put_word};
 
-fn put_four(page: &mut [u8], at: usize, four: Four) -> usize
-    requires { at + 24 ≤ length page.old }
-    ensures { Puts page.old at (four_text four) 24 result page.new }
+#[tactic(auto, using(text::specs::Pages::adds_then), unfolding(crate::specs::Points::four_text, rules::specs::Text::text))]
+fn put_four<const N: usize>(page: &mut ArrayVec<u8, N>, four: Four)
+    requires { array_vec_len page.old + 24 ≤ N }
+    ensures { Adds page.old (four_text four) 24 page.new }
 {
-    let alpha = four.alpha;
-    let alpha2 = four.alpha2;
-    let beta = four.beta;
-    let beta2 = four.beta2;
-    let next = put_numbered(page, at, b" ", alpha.0 as u32);
-    let next = put_numbered(page, next, b" ", alpha2.0 as u32);
-    let next = put_numbered(page, next, b" ", beta.0 as u32);
-    put_numbered(page, next, b" ", beta2.0 as u32)
+    put_numbered(page, b" ", four.alpha.0);
+    put_numbered(page, b" ", four.alpha2.0);
+    put_numbered(page, b" ", four.beta.0);
+    put_numbered(page, b" ", four.beta2.0);
 }
 
-fn put_marks(page: &mut [u8], at: usize, echoed: bool, readied: bool) -> usize
-    requires { at + 11 ≤ length page.old }
-    ensures { Puts page.old at (marks_text echoed readied) 11 result page.new }
+#[tactic(auto, using(text::specs::Pages::adds_then), unfolding(crate::specs::Points::marks_text, rules::specs::Text::text))]
+fn put_marks<const N: usize>(page: &mut ArrayVec<u8, N>, echoed: bool, readied: bool)
+    requires { array_vec_len page.old + 11 ≤ N }
+    ensures { Adds page.old (marks_text echoed readied) 11 page.new }
 {
-    let next = put_either(page, at, echoed, b" echo", b"");
-    put_either(page, next, readied, b" ready", b"")
+    put_either(page, echoed, b" echo", b"");
+    put_either(page, readied, b" ready", b"");
 }
 
-fn put_point(page: &mut [u8], at: usize, echoed: bool, readied: bool, place: Place) -> usize
-    requires { at + 36 ≤ length page.old }
-    ensures { Puts page.old at (point_text echoed readied place.point) 36 result page.new }
+#[tactic(auto, using(text::specs::Pages::adds_then, text::specs::Pages::adds_room), unfolding(rules::specs::Text::text))]
+fn put_point<const N: usize>(page: &mut ArrayVec<u8, N>, echoed: bool, readied: bool, point: Point)
+    requires { array_vec_len page.old + 36 ≤ N }
+    ensures { Adds page.old (point_text echoed readied point) 36 page.new }
 {
-    let point = place.point;
     match point {
-        Point::Silent => put_word(page, at, b" silent\n"),
+        Point::Silent => put_word(page, b" silent\n"),
         Point::Held(four) => {
-            let next = put_marks(page, at, echoed, readied);
-            let next = put_four(page, next, four);
-            put_word(page, next, b"\n")
+            put_marks(page, echoed, readied);
+            put_four(page, four);
+            put_word(page, b"\n");
         }
     }
 }
 
 // Box m + 1.
-fn put_point_line(page: &mut [u8], at: usize, slot: Slot, m: usize) -> usize
-    requires { (m < 10) × (at + 41 ≤ length page.old) }
-    ensures { Puts page.old at (point_line slot m) 41 result page.new }
+#[tactic(auto, using(text::specs::Pages::adds_then), unfolding(crate::specs::Points::point_line))]
+fn put_point_line<const N: usize>(page: &mut ArrayVec<u8, N>, slot: Slot, m: usize)
+    requires { (m < 10) × (array_vec_len page.old + 41 ≤ N) }
+    ensures { Adds page.old (point_line slot m) 41 page.new }
 {
-    let echoes = slot.echoed;
-    let readies = slot.readied;
-    let places = slot.places;
-    let echoed = echoes.at[m];
-    let readied = readies.at[m];
-    let place = places[m];
-    let next = put_decimal(page, at, m as u32 + 1);
-    put_point(page, next, echoed, readied, place)
+    put_decimal(page, m as u16 + 1);
+    put_point(
+        page,
+        slot.echoed.at[m],
+        slot.readied.at[m],
+        slot.places[m].point,
+    );
 }
 
-fn put_point_lines(page: &mut [u8], at: usize, n: u32, slot: Slot) -> usize
-    requires { at + 410 ≤ length page.old }
-    ensures { Puts page.old at (point_lines n slot) 410 result page.new }
+#[tactic(auto, using(text::specs::Pages::runs_all, crate::specs::Parts::min_least), unfolding(crate::specs::Points::point_lines))]
+fn put_point_lines<const N: usize>(page: &mut ArrayVec<u8, N>, n: u32, slot: Slot)
+    requires { array_vec_len page.old + 410 ≤ N }
+    ensures { Adds page.old (point_lines n slot) 410 page.new }
 {
-    let boxes = in_use(n, 10);
-    let mut next = at;
-    let mut m: usize = 0;
-    while m < boxes {
-        next = put_point_line(page, next, slot, m);
-        m += 1;
+    for m in 0..(n as usize).min(SetUp::BOXES) {
+        put_point_line(page, slot, m);
     }
-    next
 }
 
 // Only the all-zero record has group 0.
-pub fn put_points(page: &mut [u8], at: usize, x: Record, place: usize) -> usize
-    requires { at + 410 ≤ length page.old }
-    ensures { Puts page.old at (points_lines x place) 410 result page.new }
+#[tactic(auto, using(text::specs::Pages::adds_room), unfolding(crate::specs::Points::points_lines, rules::specs::Text::text))]
+pub fn put_points<const N: usize>(page: &mut ArrayVec<u8, N>, x: Record, place: usize)
+    requires { array_vec_len page.old + 410 ≤ N }
+    ensures { Adds page.old (points_lines x place) 410 page.new }
 {
-    let u = x.setup;
-    if u.group == 0 {
-        return put_word(page, at, b"no box\n");
+    if x.setup.group == 0 {
+        put_word(page, b"no box\n");
+    } else if place < SetUp::SLOTS && x.slots[place].used {
+        put_point_lines(page, x.setup.n, x.slots[place]);
+    } else {
+        put_word(page, b"no place\n");
     }
-    if place >= SetUp::SLOTS {
-        return put_word(page, at, b"no place\n");
-    }
-    let slot = x.slots[place];
-    if !slot.used {
-        return put_word(page, at, b"no place\n");
-    }
-    put_point_lines(page, at, u.n, slot)
 }

@@ -1,11 +1,11 @@
 // All that a record holds, but for the points of its places, which `points` puts.
-ghost use Rattle.std.specs.Prelude.{◌≡◌, ◌+◌, ◌<◌, ◌≤◌, length};
-ghost use Rattle.text.specs.Puts.{Puts};
+ghost use Rattle.std.specs.Prelude.{◌≡◌, ◌+◌, ◌<◌, ◌≤◌};
+ghost use Rattle.arrayvec.specs.ArrayVec.{array_vec_len};
+ghost use Rattle.text.specs.Pages.{Adds};
 ghost use Rattle.console_shows.specs.Show.{
   sizes_text,
   set_up_line,
   dealt_line,
-  heard_text,
   heard_line,
   completed_line,
   completion_line,
@@ -16,87 +16,83 @@ ghost use Rattle.console_shows.specs.Show.{
   show_lines,
 };
 
-use crate::parts::{put_either, put_kept, put_listed, put_numbered, put_widely};
+use crate::parts::{put_either, put_kept, put_listed, put_widely};
 use crate::places::put_places;
+use arrayvec::ArrayVec;
 use rules::{Marks, Pair, Progress, Record, SetUp, Slot};
-use text::write::put_word;
+use text::page::{put_numbered, put_word};
 
-fn put_sizes(page: &mut [u8], at: usize, u: SetUp) -> usize
-    requires { at + 39 ≤ length page.old }
-    ensures { Puts page.old at (sizes_text u) 39 result page.new }
+#[tactic(auto, using(text::specs::Pages::adds_then), unfolding(crate::specs::Show::sizes_text, rules::specs::Text::text))]
+fn put_sizes<const N: usize>(page: &mut ArrayVec<u8, N>, u: SetUp)
+    requires { array_vec_len page.old + 39 ≤ N }
+    ensures { Adds page.old (sizes_text u) 39 page.new }
 {
-    let next = put_widely(page, at, b" n ", u.n);
-    let next = put_widely(page, next, b" t ", u.t);
-    put_widely(page, next, b" k ", u.k)
+    put_widely(page, b" n ", u.n);
+    put_widely(page, b" t ", u.t);
+    put_widely(page, b" k ", u.k);
 }
 
-fn put_set_up(page: &mut [u8], at: usize, u: SetUp) -> usize
-    requires { at + 108 ≤ length page.old }
-    ensures { Puts page.old at (set_up_line u) 108 result page.new }
+#[tactic(auto, using(text::specs::Pages::adds_then), unfolding(crate::specs::Show::set_up_line, rules::specs::Text::text))]
+fn put_set_up<const N: usize>(page: &mut ArrayVec<u8, N>, u: SetUp)
+    requires { array_vec_len page.old + 108 ≤ N }
+    ensures { Adds page.old (set_up_line u) 108 page.new }
 {
-    let next = put_widely(page, at, b"box ", u.i);
-    let next = put_widely(page, next, b" group ", u.group);
-    let next = put_sizes(page, next, u);
-    let next = put_widely(page, next, b" dealer ", u.d);
-    let next = put_widely(page, next, b" session ", u.session);
-    put_word(page, next, b"\n")
+    put_widely(page, b"box ", u.i);
+    put_widely(page, b" group ", u.group);
+    put_sizes(page, u);
+    put_widely(page, b" dealer ", u.d);
+    put_widely(page, b" session ", u.session);
+    put_word(page, b"\n");
 }
 
-fn put_dealt(page: &mut [u8], at: usize, u: SetUp, dealt: bool) -> usize
-    requires { at + 16 ≤ length page.old }
-    ensures { Puts page.old at (dealt_line u dealt) 16 result page.new }
+#[tactic(auto, using(text::specs::Pages::adds_none), unfolding(crate::specs::Show::dealt_line, rules::specs::Text::text))]
+fn put_dealt<const N: usize>(page: &mut ArrayVec<u8, N>, u: SetUp, dealt: bool)
+    requires { array_vec_len page.old + 16 ≤ N }
+    ensures { Adds page.old (dealt_line u dealt) 16 page.new }
 {
-    if u.i != u.d {
-        return at;
+    if u.i == u.d {
+        put_either(page, dealt, b"dealt\n", b"not dealt\n");
     }
-    put_either(page, at, dealt, b"dealt\n", b"not dealt\n")
 }
 
-// Who is heard for the tag whose marks stand at this place.
-fn put_tag(page: &mut [u8], at: usize, word: &[u8], heard: [Marks; 4], tag: usize) -> usize
-    requires { (tag < 4) × (at + length word.now + 60 ≤ length page.old) }
-    ensures { Puts page.old at (heard_text word.now heard tag) (length word.now + 60) result page.new }
+// Tag 1 stands at 0.
+#[tactic(auto, using(text::specs::Pages::adds_then), unfolding(crate::specs::Show::heard_line, crate::specs::Show::heard_text, rules::specs::Text::text))]
+fn put_heard<const N: usize>(page: &mut ArrayVec<u8, N>, heard: [Marks; 4])
+    requires { array_vec_len page.old + 271 ≤ N }
+    ensures { Adds page.old (heard_line heard) 271 page.new }
 {
-    let marks = heard[tag];
-    put_listed(page, at, word, marks)
-}
-
-fn put_heard(page: &mut [u8], at: usize, heard: [Marks; 4]) -> usize
-    requires { at + 271 ≤ length page.old }
-    ensures { Puts page.old at (heard_line heard) 271 result page.new }
-{
-    let next = put_tag(page, at, b"heard send", heard, 0);
-    let next = put_tag(page, next, b" echo", heard, 1);
-    let next = put_tag(page, next, b" ready", heard, 2);
-    let next = put_tag(page, next, b" recovery", heard, 3);
-    put_word(page, next, b"\n")
+    put_listed(page, b"heard send", heard[0]);
+    put_listed(page, b" echo", heard[1]);
+    put_listed(page, b" ready", heard[2]);
+    put_listed(page, b" recovery", heard[3]);
+    put_word(page, b"\n");
 }
 
 // ---- completion and recovery
 
-fn put_completed(page: &mut [u8], at: usize, s: usize, keep: Option<Pair>) -> usize
-    requires { (s < 20) × (at + 52 ≤ length page.old) }
-    ensures { Puts page.old at (completed_line s keep) 52 result page.new }
+#[tactic(auto, using(text::specs::Pages::adds_then), unfolding(crate::specs::Show::completed_line, rules::specs::Text::text))]
+fn put_completed<const N: usize>(page: &mut ArrayVec<u8, N>, s: usize, kept: Option<Pair>)
+    requires { (s < 20) × (array_vec_len page.old + 52 ≤ N) }
+    ensures { Adds page.old (completed_line s kept) 52 page.new }
 {
-    let next = put_numbered(page, at, b"completed place ", s as u32);
-    put_kept(page, next, b" share ", b" share none\n", keep)
+    put_numbered(page, b"completed place ", s as u16);
+    put_kept(page, b" share ", b" share none\n", kept);
 }
 
 // The pair is kept in the place of the completed matrix.
-fn put_completion(page: &mut [u8], at: usize, slots: [Slot; 20], done: Option<usize>) -> usize
-    requires { at + 52 ≤ length page.old }
-    ensures { Puts page.old at (completion_line slots done) 52 result page.new }
+#[tactic(auto, using(text::specs::Pages::adds_room), unfolding(rules::specs::Text::text))]
+fn put_completion<const N: usize>(
+    page: &mut ArrayVec<u8, N>,
+    slots: [Slot; 20],
+    completion: Option<usize>,
+)
+    requires { array_vec_len page.old + 52 ≤ N }
+    ensures { Adds page.old (completion_line slots completion) 52 page.new }
 {
-    match done {
-        None => put_word(page, at, b"not completed\n"),
-        Some(s) => {
-            if s >= SetUp::SLOTS {
-                return put_word(page, at, b"completed no place\n");
-            }
-            let slot = slots[s];
-            let keep = slot.pair;
-            put_completed(page, at, s, keep)
-        }
+    match completion {
+        None => put_word(page, b"not completed\n"),
+        Some(s) if s < SetUp::SLOTS => put_completed(page, s, slots[s].pair),
+        Some(_) => put_word(page, b"completed no place\n"),
     }
 }
 
@@ -104,75 +100,61 @@ fn put_completion(page: &mut [u8], at: usize, slots: [Slot; 20], done: Option<us
 fn kept_marks(shares: [Option<Pair>; 10]) -> Marks
     ensures { result ≡ kept_marks shares }
 {
-    let mut at = [false; SetUp::BOXES];
-    let mut m: usize = 0;
-    while m < SetUp::BOXES {
-        let keep = shares[m];
-        at[m] = keep.is_some();
-        m += 1;
+    Marks {
+        at: shares.map(|share| share.is_some()),
     }
-    Marks { at }
 }
 
-fn put_kept_boxes(page: &mut [u8], at: usize, shares: [Option<Pair>; 10]) -> usize
-    requires { at + 65 ≤ length page.old }
-    ensures { Puts page.old at (kept_line shares) 65 result page.new }
+#[tactic(auto, using(text::specs::Pages::adds_then), unfolding(crate::specs::Show::kept_line, rules::specs::Text::text))]
+fn put_kept_boxes<const N: usize>(page: &mut ArrayVec<u8, N>, shares: [Option<Pair>; 10])
+    requires { array_vec_len page.old + 65 ≤ N }
+    ensures { Adds page.old (kept_line shares) 65 page.new }
 {
-    let next = put_listed(page, at, b"kept", kept_marks(shares));
-    put_word(page, next, b"\n")
+    put_listed(page, b"kept", kept_marks(shares));
+    put_word(page, b"\n");
 }
 
 // ---- the whole
 
 // The lines before the places, and those behind them.
-fn put_first(page: &mut [u8], at: usize, u: SetUp, dealt: bool, heard: [Marks; 4]) -> usize
-    requires { at + 395 ≤ length page.old }
-    ensures { Puts page.old at (first_lines u dealt heard) 395 result page.new }
+#[tactic(auto, using(text::specs::Pages::adds_then), unfolding(crate::specs::Show::first_lines))]
+fn put_first<const N: usize>(page: &mut ArrayVec<u8, N>, u: SetUp, dealt: bool, heard: [Marks; 4])
+    requires { array_vec_len page.old + 395 ≤ N }
+    ensures { Adds page.old (first_lines u dealt heard) 395 page.new }
 {
-    let next = put_set_up(page, at, u);
-    let next = put_dealt(page, next, u, dealt);
-    put_heard(page, next, heard)
+    put_set_up(page, u);
+    put_dealt(page, u, dealt);
+    put_heard(page, heard);
 }
 
-fn put_last(
-    page: &mut [u8],
-    at: usize,
+#[tactic(auto, using(text::specs::Pages::adds_then), unfolding(crate::specs::Show::last_lines, crate::specs::Show::commanded_line, rules::specs::Text::text))]
+fn put_last<const N: usize>(
+    page: &mut ArrayVec<u8, N>,
     slots: [Slot; 20],
     progress: Progress,
     shares: [Option<Pair>; 10],
     recovered: Option<Pair>,
-) -> usize
-    requires { at + 177 ≤ length page.old }
-    ensures { Puts page.old at (last_lines slots progress shares recovered) 177 result page.new }
+)
+    requires { array_vec_len page.old + 177 ≤ N }
+    ensures { Adds page.old (last_lines slots progress shares recovered) 177 page.new }
 {
-    let done = progress.completion;
-    let next = put_completion(page, at, slots, done);
-    let next = put_either(
-        page,
-        next,
-        progress.commanded,
-        b"commanded\n",
-        b"not commanded\n",
-    );
-    let next = put_kept_boxes(page, next, shares);
-    put_kept(page, next, b"recovered ", b"not recovered\n", recovered)
+    put_completion(page, slots, progress.completion);
+    put_either(page, progress.commanded, b"commanded\n", b"not commanded\n");
+    put_kept_boxes(page, shares);
+    put_kept(page, b"recovered ", b"not recovered\n", recovered);
 }
 
 // Only the all-zero record has group 0.
-pub fn put_show(page: &mut [u8], at: usize, x: Record) -> usize
-    requires { at + 8952 ≤ length page.old }
-    ensures { Puts page.old at (show_lines x) 8952 result page.new }
+#[tactic(auto, using(text::specs::Pages::adds_then, text::specs::Pages::adds_room), unfolding(crate::specs::Show::show_lines, rules::specs::Text::text))]
+pub fn put_show<const N: usize>(page: &mut ArrayVec<u8, N>, x: Record)
+    requires { array_vec_len page.old + 8952 ≤ N }
+    ensures { Adds page.old (show_lines x) 8952 page.new }
 {
-    let u = x.setup;
-    if u.group == 0 {
-        return put_word(page, at, b"no box\n");
+    if x.setup.group == 0 {
+        put_word(page, b"no box\n");
+    } else {
+        put_first(page, x.setup, x.progress.dealt, x.heard);
+        put_places(page, x.setup.k, x.slots);
+        put_last(page, x.slots, x.progress, x.shares, x.recovered);
     }
-    let progress = x.progress;
-    let heard = x.heard;
-    let slots = x.slots;
-    let shares = x.shares;
-    let recovered = x.recovered;
-    let next = put_first(page, at, u, progress.dealt, heard);
-    let next = put_places(page, next, u.k, slots);
-    put_last(page, next, slots, progress, shares, recovered)
 }

@@ -2,12 +2,14 @@
 #![tactic(auto)]
 
 mod boxes;
+mod dealt;
 mod first;
 mod lines;
 mod second;
 
 use rules::Group;
 
+#[tactic(auto, unfolding(rules::specs::Numbers::groups))]
 fn main() {
     first::sums(Group::at(0));
     second::sums(Group::at(1));

@@ -4,8 +4,9 @@
 
 pub mod showing;
 
-ghost use Rattle.std.specs.Prelude.{◌≤◌};
+ghost use Rattle.std.specs.Iterator.{IsFinite};
 
+use arrayvec::ArrayVec;
 use rules::{Answer, Element, Pair, Sent};
 
 // On standard output; a program that cannot write says so, each time that it tries.
@@ -15,14 +16,10 @@ pub fn words(text: &[u8]) {
     }
 }
 
-// Of five digits at most, as every number is that a box tells.
 pub fn number(x: usize) {
-    if x < 100_000 {
-        let mut space = [0u8; 5];
-        let n = text::write::put_decimal(&mut space, 0, x as u32);
-        let page: &[u8] = &space;
-        words(&page[0..n]);
-    }
+    let mut space = [0u8; 20];
+    let n = io::decimal(x as u64, &mut space);
+    words(&space[..n]);
 }
 
 // A word and a number behind it.
@@ -31,83 +28,61 @@ pub fn numbered(word: &[u8], x: usize) {
     number(x);
 }
 
-// ---- lists: `between` stands before every number but the first, which stands at 0
+// ---- lists: `between` stands before every number but the first
 
-// The number that stands at this place of a list.
-pub fn listed(between: &[u8], at: usize, x: usize) {
-    if 0 < at {
-        words(between);
+pub fn listed<I: Iterator<Item = u16>>(between: &[u8], numbers: I)
+    requires can { I.can_next numbers }
+    requires ends { IsFinite (I.remaining numbers) }
+{
+    let mut before: &[u8] = b"";
+    for x in numbers {
+        numbered(before, usize::from(x));
+        before = between;
     }
-    number(x);
 }
 
 // A list of two.
 pub fn pair(between: &[u8], pair: Pair) {
-    let first = pair.first;
-    let second = pair.second;
-    listed(between, 0, first.0 as usize);
-    listed(between, 1, second.0 as usize);
+    listed(between, [pair.first.0, pair.second.0].into_iter());
 }
 
 // The first k rows and columns.
 pub fn matrix(between: &[u8], k: usize, c: [[Element; 8]; 8]) {
-    let mut m: usize = 0;
-    while m < 64 {
-        let j = m / 8;
-        let l = m % 8;
-        let e = c[j][l];
-        if j < k && l < k {
-            listed(between, m, e.0 as usize);
-        }
-        m += 1;
-    }
+    listed(
+        between,
+        c.iter()
+            .take(k)
+            .flat_map(|row| row.iter().take(k))
+            .map(|e| e.0),
+    );
 }
 
 // ---- the line of an answer
 
-// The tag of what was sent; 0 for nothing.
-pub fn tag_of(sent: Sent) -> u8
-    ensures { result ≤ 4 }
-{
-    match sent {
-        Sent::Nothing => 0,
-        Sent::Send => 1,
-        Sent::Echo => 2,
-        Sent::Ready => 3,
-        Sent::Recovery => 4,
-    }
-}
-
-// The word of a tag, with a space before it.
-pub fn tag_word(tag: u8) {
-    match tag {
-        1 => words(b" send"),
-        2 => words(b" echo"),
-        3 => words(b" ready"),
-        4 => words(b" recovery"),
-        _ => words(b" nothing"),
-    }
+// The word of what was sent, with a space before it.
+pub fn sent(what: Sent) {
+    words(match what {
+        Sent::Nothing => b" nothing",
+        Sent::Send => b" send",
+        Sent::Echo => b" echo",
+        Sent::Ready => b" ready",
+        Sent::Recovery => b" recovery",
+    });
 }
 
 fn yes_or_no(answer: bool) {
-    if answer {
-        words(b" yes");
-    } else {
-        words(b" no");
-    }
+    words(if answer { b" yes" } else { b" no" });
 }
 
 // answer NO SENT BYTES COMPLETED RECOVERED S S'
 pub fn answer(a: Answer) {
-    let sent = a.sent;
-    let recovered = a.pair;
-    numbered(b"answer ", a.no as usize);
-    tag_word(tag_of(sent));
+    numbered(b"answer ", usize::from(a.no));
+    sent(a.sent);
     numbered(b" ", a.bytes);
     yes_or_no(a.completed);
     yes_or_no(a.recovered);
     words(b" ");
-    pair(b" ", recovered);
+    pair(b" ", a.pair);
     words(b"\n");
 }
 
@@ -115,36 +90,23 @@ pub fn answer(a: Answer) {
 
 // The message to box j: 199 bytes at most.
 fn message(j: usize, bytes: &[u8]) {
-    let n = bytes.len();
-    if 256 < n {
+    if 256 < bytes.len() {
         return;
     }
-    let mut space = [0u8; 512];
-    let m = text::hexadecimal::put_hex(&mut space, 0, bytes, 0, n);
-    let page: &[u8] = &space;
+    let mut page = ArrayVec::<u8, 512>::new();
+    text::page::put_hex(&mut page, bytes);
     numbered(b"to ", j);
     words(b" ");
-    words(&page[0..m]);
+    words(page.as_slice());
     words(b"\n");
 }
 
 // The n messages of a call at the front of the buffer, to box 1 first.
 pub fn messages(n: usize, bytes: usize, out: &[u8]) {
-    if n == 0 {
+    if n == 0 || bytes < n || out.len() < bytes {
         return;
     }
-    if out.len() < bytes {
-        return;
-    }
-    let size = bytes / n;
-    if size == 0 {
-        return;
-    }
-    let mut at: usize = 0;
-    let mut j: usize = 0;
-    while size <= bytes - at {
-        j += 1;
-        message(j, &out[at..at + size]);
-        at += size;
+    for (bytes, j) in out[..bytes].chunks_exact(bytes / n).zip(1..) {
+        message(j, bytes);
     }
 }

@@ -16,25 +16,19 @@ fn set_up(u: SetUp) {
 // ---- places
 
 fn place(k: usize, s: usize, slot: Slot) {
-    let echoed = slot.echoed;
-    let readied = slot.readied;
-    let rows = slot.rows;
     numbered(b"place ", s);
-    numbered(b" e ", record_reading::count_marks(echoed) as usize);
-    numbered(b" r ", record_reading::count_marks(readied) as usize);
+    numbered(b" e ", record_reading::count_marks(slot.echoed) as usize);
+    numbered(b" r ", record_reading::count_marks(slot.readied) as usize);
     words(b" matrix ");
-    crate::matrix(b" ", k, rows);
+    crate::matrix(b" ", k, slot.rows);
     words(b"\n");
 }
 
 fn places(k: usize, all: [Slot; 20]) {
-    let mut s: usize = 0;
-    while s < SetUp::SLOTS {
-        let slot = all[s];
+    for (s, slot) in all.iter().enumerate() {
         if slot.used {
-            place(k, s, slot);
+            place(k, s, *slot);
         }
-        s += 1;
     }
 }
 
@@ -57,11 +51,9 @@ fn completion(done: Option<usize>, all: [Slot; 20]) {
     match done {
         None => words(b"not completed\n"),
         Some(s) => {
-            if s < SetUp::SLOTS {
-                let slot = all[s];
-                let keep = slot.pair;
+            if let Some(slot) = all.get(s) {
                 numbered(b"completed place ", s);
-                kept_pair(b" share ", b" share none", keep);
+                kept_pair(b" share ", b" share none", slot.pair);
             }
         }
     }
@@ -73,12 +65,9 @@ fn shares(all: [Option<Pair>; 10]) {
     if record_reading::count_shares(all) == 0 {
         words(b" none");
     }
-    let mut m: usize = 0;
-    while m < SetUp::BOXES {
-        let keep = all[m];
-        m += 1;
+    for (m, keep) in all.iter().enumerate() {
         if keep.is_some() {
-            numbered(b" ", m);
+            numbered(b" ", m + 1);
         }
     }
     words(b"\n");
@@ -86,19 +75,13 @@ fn shares(all: [Option<Pair>; 10]) {
 
 // Only the all-zero record has group 0.
 pub fn show(x: Record) {
-    let u = x.setup;
-    if u.group == 0 {
+    if x.setup.group == 0 {
         words(b"no box\n");
         return;
     }
-    let all = x.slots;
-    let kept = x.shares;
-    let recovered = x.recovered;
-    let progress = x.progress;
-    let done = progress.completion;
-    set_up(u);
-    places(u.k as usize, all);
-    completion(done, all);
-    shares(kept);
-    kept_pair(b"recovered ", b"not recovered", recovered);
+    set_up(x.setup);
+    places(x.setup.k as usize, x.slots);
+    completion(x.progress.completion, x.slots);
+    shares(x.shares);
+    kept_pair(b"recovered ", b"not recovered", x.recovered);
 }

@@ -14,206 +14,160 @@
 //     mark S TAG BOX BOX ..     these boxes alone are marked for echo, tag 2, or for ready
 //     kept S [A B]              the kept pair; without numbers it is absent
 //
-// A number out of range counts as the lowest in range.
-ghost use Rattle.std.specs.Prelude.{◌<◌};
+// Another number that is not said counts as 0.
+ghost use Rattle.std.specs.Prelude.{◌≤◌, ◌<◌};
 
-use crate::saying;
-use crate::saying::{Change, at};
-use rules::{Element, Exponent, Four, Marks, Pair, Place, Point, Progress, Record, SetUp, Slot};
+use rules::{Element, Exponent, Four, Marks, Pair, Point, Record, SetUp};
+use std::array;
 
-fn narrow(number: usize) -> u32 {
-    if 4_294_967_295 < number {
-        return 4_294_967_295;
-    }
-    number as u32
+// Places, tags, boxes, rows and columns as they are said, in range or not.
+#[derive(Clone, Copy)]
+enum Change {
+    Numbers(SetUp),
+    Heard(usize, Marks),
+    Share(usize, Option<Pair>),
+    Recovered(Option<Pair>),
+    Dealt(bool),
+    With(Option<usize>),
+    Commanded(bool),
+    Fill(usize, usize),
+    Used(usize, bool),
+    Entry(usize, usize, usize, Element),
+    Place(usize, usize, Point),
+    Mark(usize, usize, Marks),
+    Kept(usize, Option<Pair>),
 }
 
-fn short(number: usize) -> u16 {
-    if 65_535 < number {
-        return 65_535;
-    }
-    number as u16
+// ---- what a text says
+
+fn wide(number: Option<usize>) -> u32 {
+    u32::try_from(number.unwrap_or(0)).unwrap_or(u32::MAX)
 }
 
-// ---- the parts of a record
+fn short(number: Option<usize>) -> u16 {
+    u16::try_from(number.unwrap_or(0)).unwrap_or(u16::MAX)
+}
 
-// The seven numbers of a change.
-pub fn set_up(change: Change) -> SetUp {
-    let numbers = change.numbers;
+fn exponent(number: Option<usize>) -> Exponent {
+    Exponent(short(number))
+}
+
+fn set_up(numbers: [Option<usize>; 7]) -> SetUp {
+    let [group, n, t, k, i, d, session] = numbers.map(wide);
     SetUp {
-        group: narrow(numbers[0]),
-        n: narrow(numbers[1]),
-        t: narrow(numbers[2]),
-        k: narrow(numbers[3]),
-        i: narrow(numbers[4]),
-        d: narrow(numbers[5]),
-        session: narrow(numbers[6]),
+        group,
+        n,
+        t,
+        k,
+        i,
+        d,
+        session,
     }
 }
 
-// The boxes from number `first` of the change on.
-fn marks(change: Change, first: usize) -> Marks {
-    let mut marks = Marks { at: [false; 10] };
-    let mut j = first;
-    while j < 7 {
-        if j < change.count {
-            let m = at(change.numbers[j], 1, 10);
-            marks.at[m] = true;
-        }
-        j += 1;
+fn marks(boxes: &[Option<usize>]) -> Marks {
+    Marks {
+        at: array::from_fn(|m| boxes.contains(&Some(m + 1))),
     }
-    marks
 }
 
-// The pair from number `first` of the change on.
-fn keep(change: Change, first: usize) -> Option<Pair>
-    requires { first < 6 }
+fn pair(numbers: [Option<usize>; 2]) -> Option<Pair> {
+    numbers[0]?;
+    let [first, second] = numbers.map(exponent);
+    Some(Pair { first, second })
+}
+
+fn point(numbers: [Option<usize>; 4]) -> Point {
+    if numbers[0].is_none() {
+        return Point::Silent;
+    }
+    let [alpha, alpha2, beta, beta2] = numbers.map(exponent);
+    Point::Held(Four {
+        alpha,
+        alpha2,
+        beta,
+        beta2,
+    })
+}
+
+// A word, and seven numbers at most.
+fn change_in(text: &str) -> Option<Change> {
+    let mut words = text.split_whitespace();
+    let word = words.next()?;
+    let numbers: [Option<usize>; 7] = array::from_fn(|_| words.next()?.parse().ok());
+    let [a, b, c, d, e, f, _] = numbers;
+    let first = a.unwrap_or(0);
+    let second = b.unwrap_or(0);
+    Some(match word {
+        "numbers" => Change::Numbers(set_up(numbers)),
+        "heard" => Change::Heard(first, marks(&numbers[1..])),
+        "share" => Change::Share(first, pair([b, c])),
+        "recovered" => Change::Recovered(pair([a, b])),
+        "dealt" => Change::Dealt(first == 1),
+        "with" => Change::With(a),
+        "commanded" => Change::Commanded(first == 1),
+        "fill" => Change::Fill(first, second),
+        "used" => Change::Used(first, second == 1),
+        "entry" => Change::Entry(first, second, c.unwrap_or(0), Element(short(d))),
+        "place" => Change::Place(first, second, point([c, d, e, f])),
+        "mark" => Change::Mark(first, second, marks(&numbers[2..])),
+        "kept" => Change::Kept(first, pair([b, c])),
+        _ => return None,
+    })
+}
+
+// ---- the record changed
+
+// Where a number stands among `many` from `lowest` on; one out of range, where the lowest does.
+fn at(number: usize, lowest: usize, many: usize) -> usize
+    requires { 1 ≤ many }
+    ensures { result < many }
 {
-    if change.count <= first {
-        return None;
-    }
-    let a = short(change.numbers[first]);
-    let b = short(change.numbers[first + 1]);
-    Some(Pair {
-            first: Exponent(a),
-            second: Exponent(b),
-        })
-}
-
-fn place(change: Change) -> Place {
-    if change.count <= 2 {
-        return Place {
-            point: Point::Silent,
-        };
-    }
-    let numbers = change.numbers;
-    Place {
-        point: Point::Held(Four {
-            alpha: Exponent(short(numbers[2])),
-            alpha2: Exponent(short(numbers[3])),
-            beta: Exponent(short(numbers[4])),
-            beta2: Exponent(short(numbers[5])),
-        }),
+    match number.checked_sub(lowest) {
+        Some(at) if at < many => at,
+        _ => 0,
     }
 }
 
-fn progress(old: Progress, change: Change) -> Progress {
-    let mut dealt = old.dealt;
-    let mut completion = old.completion;
-    let mut commanded = old.commanded;
-    let number = change.numbers[0];
-    let letter = change.letter;
-    match letter {
-        b'd' => dealt = number == 1,
-        b'c' => commanded = number == 1,
-        _ => {
-            completion = if change.count == 0 {
-                None
-            } else {
-                Some(number)
-            };
-        }
-    }
-    Progress {
-        dealt,
-        completion,
-        commanded,
-    }
+fn seat(number: usize) -> usize
+    ensures { result < 10 }
+{
+    at(number, 1, SetUp::BOXES)
 }
 
-// ---- a place for a matrix, and the record
-
-fn slot(mut next: Slot, change: Change) -> Slot {
-    let letter = change.letter;
-    let number = change.numbers[1];
-    match letter {
-        b'u' => next.used = number == 1,
-        b'e' => {
-            let j = at(number, 0, 8);
-            let l = at(change.numbers[2], 0, 8);
-            let mut row = next.rows[j];
-            row.at[l] = Element(short(change.numbers[3]));
-            next.rows[j] = row;
-        }
-        b'p' => {
-            let m = at(number, 1, 10);
-            let place = place(change);
-            next.places[m] = place;
-        }
-        b'm' => {
-            let marks = marks(change, 2);
-            if number == 2 {
-                next.echoed = marks;
-            } else {
-                next.readied = marks;
-            }
-        }
-        b'k' => {
-            let pair = keep(change, 1);
-            next.pair = pair;
-        }
-        _ => {}
-    }
-    next
-}
-
-// Where the place that is changed comes from: where it stands, unless it is filled.
-fn source(change: Change) -> usize
+fn slot(number: usize) -> usize
     ensures { result < 20 }
 {
-    if change.letter == b'f' {
-        return at(change.numbers[1], 0, 20);
-    }
-    at(change.numbers[0], 0, 20)
+    at(number, 0, SetUp::SLOTS)
 }
 
 fn changed(mut next: Record, change: Change) -> Record {
-    let letter = change.letter;
-    let number = change.numbers[0];
-    match letter {
-        b'n' => {
-            let numbers = set_up(change);
-            next.setup = numbers;
-        }
-        b'r' => {
-            let pair = keep(change, 0);
-            next.recovered = pair;
-        }
-        b'd' | b'c' | b'w' => {
-            let old = next.progress;
-            let new = progress(old, change);
-            next.progress = new;
-        }
-        b'h' => {
-            let tag = at(number, 1, 4);
-            let marks = marks(change, 1);
-            next.heard[tag] = marks;
-        }
-        b's' => {
-            let m = at(number, 1, 10);
-            let share = keep(change, 1);
-            next.shares[m] = share;
-        }
-        _ => {
-            let s = at(number, 0, 20);
-            let from = source(change);
-            let old = next.slots[from];
-            let new = slot(old, change);
-            next.slots[s] = new;
-        }
+    match change {
+        Change::Numbers(numbers) => next.setup = numbers,
+        Change::Heard(tag, marks) => next.heard[at(tag, 1, 4)] = marks,
+        Change::Share(i, share) => next.shares[seat(i)] = share,
+        Change::Recovered(pair) => next.recovered = pair,
+        Change::Dealt(done) => next.progress.dealt = done,
+        Change::With(s) => next.progress.completion = s,
+        Change::Commanded(done) => next.progress.commanded = done,
+        Change::Fill(s, from) => next.slots[slot(s)] = next.slots[slot(from)],
+        Change::Used(s, used) => next.slots[slot(s)].used = used,
+        Change::Entry(s, j, l, e) => next.slots[slot(s)].rows[at(j, 0, 8)][at(l, 0, 8)] = e,
+        Change::Place(s, i, point) => next.slots[slot(s)].places[seat(i)].point = point,
+        Change::Mark(s, 2, marks) => next.slots[slot(s)].echoed = marks,
+        Change::Mark(s, _, marks) => next.slots[slot(s)].readied = marks,
+        Change::Kept(s, pair) => next.slots[slot(s)].pair = pair,
     }
     next
 }
 
-// The changes that a text says, each behind a comma.
-pub fn all(x: Record, text: &[u8]) -> Record {
+// The changes that a text says, with a comma between two.
+pub fn all(x: Record, text: &str) -> Record {
     let mut next = x;
-    let mut at: usize = 0;
-    while at < text.len() {
-        let end = saying::behind(text, at, b',');
-        let change = saying::change_in(&text[at..end]);
-        next = changed(next, change);
-        at = end;
+    for said in text.split(',') {
+        if let Some(change) = change_in(said) {
+            next = changed(next, change);
+        }
     }
     next
 }

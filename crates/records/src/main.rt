@@ -5,7 +5,6 @@
 mod bases;
 mod changes;
 mod lines;
-mod saying;
 mod sound;
 mod unsound_ends;
 mod unsound_numbers;

@@ -61,7 +61,7 @@ line_place b i (suc m) = next_line b (line_place b i m)
 unfoldable pub said_at : List ℕ → ℕ → Option Pair
 said_at b i =
     pick (is_silent b i) None
-          (Some (record { first = exponent (number_at b (says_place b i) 0); second = exponent (number_at b (says_place b i) 1) }))
+    (Some (record { first = exponent (number_at b (says_place b i) 0); second = exponent (number_at b (says_place b i) 1) }))
 
 -- what boxes 1 to n say
 unfoldable pub sheet_shares : List ℕ → ℕ → ℕ → List (Option Pair)

@@ -13,7 +13,7 @@ use Rattle.rules.specs.Numbers.{group_keeps, sizes_keep}
 use Rattle.rules.specs.Text.{text, word_at, digits_end, decimal}
 use Rattle.rules.specs.Sheet.{sheet_set_up, first_line_keeps, rest_keeps, body_printed, printed}
 use Rattle.sheet_reasons.specs.Lines.{line_end, line_start, in_line, spaces_in}
-use Rattle.sheet_reasons.specs.Reasons.{line_reason, count_reason, first_reason, other_box, item_place, box_reason, good_lines, own_reason, rest_bad, sheet_bad, reason_text, bad_text}
+use Rattle.sheet_reasons.specs.Reasons.{line_reason, count_reason, first_reason, other_box, item_place, box_reason, good_lines, own_reason, rest_bad, sheet_bad, reason_text, line_text, bad_text}
 use Rattle.sheet_reasons.specs.declared.bad.Bad.{Bad}
 use Rattle.sheet_reasons.specs.declared.bad.Bad.TheVariants.{TooLong, Line}
 use Rattle.sheet_reasons.specs.declared.reasons.Reason.{Reason}
@@ -73,7 +73,7 @@ unfolding bad_text text
 says_long = omega arith
 
 says_words : (before : ℕ) (r : Reason) → Worded r → Says (Some (Line before r))
-unfolding bad_text
+unfolding bad_text line_text
 says_words before r h =
     let said = text "sheet: line " ++ decimal (before + 1) ++ text ": " in
     let some = h.some in

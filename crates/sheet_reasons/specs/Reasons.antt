@@ -114,10 +114,13 @@ reason_text NoDecimal = text "not a decimal up to 65,535 without leading zeros\n
 reason_text LineTooMany = text "a line too many\n"
 
 -- a line is named by its number, from 1 on
+unfoldable pub line_text : ℕ → Reason → List ℕ
+line_text before reason = text "sheet: line " ++ decimal (before + 1) ++ text ": " ++ reason_text reason
+
 unfoldable pub bad_text : Option Bad → List ℕ
 bad_text None = []
 bad_text (Some TooLong) = text "sheet: over 4,096 bytes\n"
-bad_text (Some (Line before reason)) = text "sheet: line " ++ decimal (before + 1) ++ text ": " ++ reason_text reason
+bad_text (Some (Line before reason)) = line_text before reason
 
 -- the page has room for any of them
 pub record Room (page : List ℕ) : Type 0 where

@@ -1,25 +1,27 @@
--- `put_boxes` puts the marked boxes, or `none`. The loop's invariant: those of the first m boxes, at most 6 bytes each, are put.
--- Assumes nothing.
-use native.Mathlib.Omega.{arith}
-use Rattle.folds.specs.Runs.{gather}
+-- `put_boxes` adds the marked boxes, or `none`. Assumes nothing.
+use Rattle.std.proofs.Common.{◌∙◌, sym, arith}
 use Rattle.rules.specs.Text.{text}
-use Rattle.text.specs.Puts.{runs_none, runs_more, runs_all}
-use Rattle.console_shows.specs.Parts.{box_in, boxes_text, or_none_lem, or_some}
+use Rattle.rules.specs.Record.{marked}
+use Rattle.text.specs.Pages.{runs_none, runs_more, runs_all}
+use Rattle.console_shows.specs.Parts.{box_in, boxes_text, adds_if, adds_unless, some_added}
+use Rattle.console_shows.proofs.parts.put_boxes.Goals.{then-marked, else-marked}
 use Rattle.console_shows.proofs.parts.put_boxes.Goals as goal
 
 pub loop-m-init : goal.loop-m-init
-loop-m-init c = runs_none _ 6 10 _ _
+loop-m-init g c = runs_none
 
 pub loop-m-preserved : goal.loop-m-preserved
-loop-m-preserved c = runs_more c.loop-m.invariant c.loop-m-test.true c.put_box-next.ensures
+unfolding box_in text
+loop-m-preserved g c =
+    let here = marked c.args.marks c.loop-m.m in
+    runs_more c.loop-m.invariant
+    (elim c.if-marked.branch [
+      | then-marked w ↦ rw w.page-is (adds_if here w.if-marked.true w.put_numbered.ensures)
+      | else-marked w ↦ adds_unless here _ 6 w.if-marked.false w.page-is
+    ])
 
-pub returns-then-next-at : goal.returns-then-next-at
-unfolding boxes_text text
-returns-then-next-at c =
-    or_none_lem c.args.page.now c.args.at (gather 10 (box_in c.args.marks)) 60 (runs_all c.loop-m.invariant c.loop-m-test.false) (omega arith)
-    c.if-next-at.true c.put_word.ensures
-
-pub returns : goal.returns
+pub returns-else-len-before : goal.returns-else-len-before
 unfolding boxes_text
-returns c =
-    or_some c.args.page.now c.args.at (gather 10 (box_in c.args.marks)) 60 (runs_all c.loop-m.invariant c.loop-m-test.false) c.if-next-at.false
+returns-else-len-before g c =
+    some_added (runs_all c.loop-m.invariant 10 60 (omega arith) (omega arith))
+    (λ e. c.if-len-before.false (c.len.ensures.value ∙ e ∙ sym c.len-before.ensures.value))

@@ -1,13 +1,8 @@
--- `put_matrix` puts the first k rows and columns of a matrix. The loop's invariant: j rows, at most 48 bytes each, are put. Assumes nothing.
-use mathlib.Core.List.{[]}
-use Prim.Native.Nat.{◌-◌}
-use lib.ListN.{get_or}
-use Rattle.text.specs.Puts.{PutRuns}
+-- `put_matrix` adds the first k rows and columns of a matrix. The loop's invariant: the rows so far are added. Assumes nothing.
+use Rattle.std.proofs.Common.{[], get_or}
+use Rattle.text.specs.Pages.{AddsRuns}
 use Rattle.console_shows.specs.Show.{row_text}
 use Rattle.console_shows.proofs.places.put_matrix.Given as goal
 
-abbrev pub invariant-loop-j : goal.invariant-loop-j
-invariant-loop-j l = PutRuns (λ i. row_text l.width (get_or l.c i [])) 48 l.width l.at l.initial.page l.page l.next l.j
-
-abbrev pub decreases-loop-j : goal.decreases-loop-j
-decreases-loop-j l = l.width - l.j
+abbrev pub invariant-loop-row : goal.invariant-loop-row
+invariant-loop-row g l = AddsRuns (λ j. row_text l.width (get_or l.fn.c j [])) 48 l.initial.page l.row-index l.page

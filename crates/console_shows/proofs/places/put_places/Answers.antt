@@ -1,15 +1,17 @@
--- `put_places` puts a line for each place in use. The loop's invariant: those of the first s places, at most 419 bytes each, are put.
--- Assumes nothing.
-use Rattle.text.specs.Puts.{runs_none, runs_more, runs_all}
-use Rattle.console_shows.specs.Show.{place_lines}
+-- `put_places` adds a line for each place in use. Assumes nothing.
+use Rattle.text.specs.Pages.{runs_none, runs_more}
+use Rattle.record_reading.specs.Slots.{slot_in}
+use Rattle.console_shows.specs.Parts.{adds_if, adds_unless}
+use Rattle.console_shows.proofs.places.put_places.Goals.{then-slot, else-slot}
 use Rattle.console_shows.proofs.places.put_places.Goals as goal
 
 pub loop-s-init : goal.loop-s-init
-loop-s-init c = runs_none _ 419 20 _ _
+loop-s-init g c = runs_none
 
 pub loop-s-preserved : goal.loop-s-preserved
-loop-s-preserved c = runs_more c.loop-s.invariant c.loop-s-test.true c.put_if_used-next.ensures
-
-pub returns : goal.returns
-unfolding place_lines
-returns c = runs_all c.loop-s.invariant c.loop-s-test.false
+loop-s-preserved g c =
+    runs_more c.loop-s.invariant
+    (elim c.if-slot.branch [
+      | then-slot w ↦ rw w.page-is (adds_if (slot_in c.args.slots c.loop-s.s).used w.if-slot.true w.put_place.ensures)
+      | else-slot w ↦ adds_unless (slot_in c.args.slots c.loop-s.s).used _ 419 w.if-slot.false w.page-is
+    ])

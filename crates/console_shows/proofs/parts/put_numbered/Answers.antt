@@ -1,6 +1,0 @@
--- `put_numbered` puts a word and a number behind it. Assumes nothing.
-use Rattle.console_shows.specs.Parts.{word_then}
-use Rattle.console_shows.proofs.parts.put_numbered.Goals as goal
-
-pub returns : goal.returns
-returns c = let given = c.args in word_then given.page.now given.at given.word.now _ 5 c.put_word-next.ensures c.put_decimal.ensures

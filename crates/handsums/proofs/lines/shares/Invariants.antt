@@ -1,9 +1,0 @@
--- `shares` ends at box n. Assumes nothing.
-use Rattle.std.proofs.Common.{◌≤◌, ◌-◌}
-use Rattle.handsums.proofs.lines.shares.Given as goal
-
-abbrev pub invariant-loop-i : goal.invariant-loop-i
-invariant-loop-i l = l.i ≤ l.n
-
-abbrev pub decreases-loop-i : goal.decreases-loop-i
-decreases-loop-i l = l.n - l.i

@@ -1,2 +1,0 @@
--- How a text of changes is laid out.
-pub mod Lies
