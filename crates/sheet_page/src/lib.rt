@@ -16,7 +16,7 @@ use text::page::put_word;
 // A page has so many bytes at least.
 pub const PAGE: usize = 512;
 
-// The sheet of a group and sizes that keep their rules.
+// What stands behind the first line of a sheet whose group and sizes keep their rules.
 #[tactic(auto, using(text::specs::Pages::adds_room, rules::proofs::Laws::Numbers::sizes, rules::proofs::Laws::Numbers::group_sizes, sheet_form::specs::Laws::whole_entries), unfolding(rules::specs::Sheet::body_printed, rules::specs::Text::text))]
 fn put_body<const N: usize>(page: &mut ArrayVec<u8, N>, b: &[u8], u: SetUp)
     requires { Lawful b.now u × (array_vec_len page.old + 272 ≤ N) }
@@ -43,6 +43,7 @@ fn put_body<const N: usize>(page: &mut ArrayVec<u8, N>, b: &[u8], u: SetUp)
     sheet_verdicts::lines::print_lines(page, &sheet);
 }
 
+// The tests in order, each printing only its line.
 #[tactic(auto, using(text::specs::Pages::adds_room), unfolding(rules::specs::Sheet::printed, rules::specs::Text::text))]
 fn put_sheet<const N: usize>(page: &mut ArrayVec<u8, N>, b: &[u8])
     requires { array_vec_len page.old + 272 ≤ N }
