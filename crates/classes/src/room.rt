@@ -14,7 +14,7 @@ pub struct Class<'a> {
     ghost rules: { (setup.n ≤ 10) × (setup.k ≤ 8) },
 }
 
-// What a box sent at once, the message to box 1 first.
+// What a box sent at once, the message to box 1 first. A struct, as a literal of a struct with an array of arrays is not covered.
 #[derive(Clone, Copy)]
 struct Mail([u8; 2048]);
 
@@ -61,6 +61,7 @@ impl Room<'_> {
             Call::Deal { .. } => box_calls::deal(x, self.class.secret, self.class.coins, out),
             Call::Command => box_calls::command_recovery(x, out),
             Call::Deliver { kind, lent } => {
+                // A copy: a part of a room, which borrows its coins, is not lent.
                 let sender = self.seats[from as usize - 1];
                 let bytes = sender.message(kind, self.class.setup, to);
                 if lent {
