@@ -67,7 +67,7 @@ pub fn times(p: u16, x: Element, y: Element) -> Element
     Element(product_modulo(p, x.0, y.0))
 }
 
-// e^x modulo p, by squaring.
+// e^x modulo p, by squaring. A `while`: the exponent is halved and nothing is counted.
 pub fn power(p: u16, e: Element, x: Exponent) -> Element
     requires { 0 < p }
     ensures { result ≡ element (e.0 ^ x.0 % p) }

@@ -68,7 +68,7 @@ pub fn form(u: SetUp, sender: u32, bytes: &[u8]) -> Result<(), Refusal>
     Ok(())
 }
 
-// 4 to 7: its sender may say it now.
+// 4 to 7: its sender may say it now. Tags are numbers, since `turn_rows` and the marks (`heard_for`) are over them.
 #[tactic(auto, unfolding(rules::specs::Answers::first_row, rules::specs::Answers::turn_rows))]
 pub fn turn(x: Record, sender: u32, bytes: &[u8]) -> Result<(), Refusal>
     requires { InForm x.setup sender bytes.now }

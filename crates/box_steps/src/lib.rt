@@ -125,7 +125,8 @@ pub fn take(out: &mut [u8], x: Record, sender: u32, bytes: &[u8]) -> Step
     }
 }
 
-// The record after a refusal at the hearing: a message with a matrix marks its sender heard, a recovery share nobody.
+// The record after a refusal at the hearing: a message with a matrix marks its sender heard, a recovery share nobody. The tag is a
+// number, since `refusal_heard` is over it.
 #[tactic(auto, unfolding(rules::specs::Answers::refusal_heard, rules::specs::Messages::has_matrix))]
 pub fn refused_at_hearing(x: Record, sender: u32, bytes: &[u8]) -> Record
     requires { Hearing x sender bytes.now }

@@ -15,7 +15,8 @@ ghost use Rattle.console_lines.specs.Lines.{
 
 use std::io::{Read, Stdin};
 
-// The bytes that have come and are not taken yet: those of the buffer from one place to another.
+// The bytes that have come and are not taken yet: those of the buffer from one place to another. Places and no slice, since more is
+// read into the buffer while they are held.
 #[derive(Clone, Copy)]
 pub struct Held {
     pub from: usize,

@@ -20,7 +20,7 @@ use crate::words::Word;
 use rules::SetUp;
 
 // A deal has a secret and so many coins, a delivery a sender and so many bytes, and so has `read`; they stand in the space that
-// was lent.
+// was lent. Nothing is what a comment and an empty line say, a case like the others.
 #[derive(Clone, Copy)]
 pub enum Said {
     Nothing,

@@ -38,7 +38,7 @@ fn end_place(u: SetUp) -> usize
     7 + 2 * (k * k)
 }
 
-// The whole length of a message with this tag.
+// The whole length of a message with this tag, a number, since `Messages.whole_length` is over any.
 #[tactic(auto, unfolding(rules::specs::Messages::whole_length))]
 pub fn whole_length(u: SetUp, tag: u8) -> usize
     requires { u.k ≤ 8 }

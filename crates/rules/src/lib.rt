@@ -302,7 +302,7 @@ impl Refusal {
     }
 }
 
-// What an accepted call has sent.
+// What an accepted call has sent. Nothing is one of document 01's words, which theorems name, and so no None.
 #[derive(Clone, Copy)]
 pub enum Sent {
     Nothing,
