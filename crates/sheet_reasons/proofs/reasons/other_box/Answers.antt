@@ -11,4 +11,4 @@ pub returns : goal.returns
 unfolding other_box
 returns c =
     let read = some_decimal _ _ (sym c.in-Some.is ∙ c.decimal_at.ensures) in
-    rw read.stands (ap (λ n. not (eqb n c.args.m)) read.number)
+    rw read.stands (ap (λ n. not (eqb n c.args.m)) (c.from.ensures ∙ read.number))
