@@ -86,6 +86,7 @@ pub fn judge(line: &[u8]) -> Result<Option<Word>, Reason>
     if let Some(i) = bad_space(line) {
         return Err(Reason::Space((i + 1) as u16));
     }
+    // No `?`: tried, and a goal on the error's `From` stayed open.
     match crate::words::word_of(line) {
         Some(word) => judge_word(line, word),
         None => Err(Reason::NoSuchWord),

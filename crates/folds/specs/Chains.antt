@@ -7,7 +7,7 @@
 -- Assumes nothing.
 use Prim.Native.Nat.{ℕ, zero, suc, ◌+◌, ◌<◌}
 use native.Mathlib.Omega.{arith}
-use Rattle.std.proofs.Common.{add-one, add-zero, ◌∙◌}
+use Rattle.std.proofs.Common.{add-one, ◌∙◌}
 use Rattle.std.specs.Prelude.{Bool, List, [], ◌∷◌, ◌≡◌, length, get_or, ltb, not, cond, Option, Some, None}
 use Rattle.std.proofs.Math.Bool.{true, false, ◌&&◌, ◌||◌}
 use Rattle.std.proofs.Math.Path.{refl, sym, ap, ap₂}
@@ -115,10 +115,10 @@ module _ {X : Type 0} (p : X → Bool) (d : X) where
       let f = count_below_front (at (x ∷ xs)) (length xs) in
       let g : cond {A = ℕ} (p x) 1 0 ≡ pick (p x) 1 0 = picked (p x) in
       sum_by-cons (λ y. cond (p y) 1 0) x xs ∙ ap₂ ◌+◌ g (count_places xs ∙ sym e) ∙ sym f
-      where
-        picked : (b : Bool) → cond {A = ℕ} b 1 0 ≡ pick b 1 0
-        picked true = refl
-        picked false = refl
+    where
+      picked : (b : Bool) → cond {A = ℕ} b 1 0 ≡ pick b 1 0
+      picked true = refl
+      picked false = refl
 
   pub first_places : (xs : List X) → position_or_len p xs ≡ first_from (length xs) 0 (at xs)
   unfolding first_from
@@ -171,18 +171,18 @@ same_option (Some x) = refl
 
 module _ {F : Type 0} {g : Mut F (ℕ × Unit {0}) Bool} {s : Range ℕ} (test : ℕ → Bool) (n : ℕ) (u : Range ℕ) {f : F} {r : Bool} where
   pub all_of_range : (xs : List ℕ) × (o : Option ℕ) × (j : F) × YieldsThen nat_range_steps s xs o u × FoldsTo (λ p x q. Called g p (x, tt) true q) f xs j
-          × MatchOption o (r ≡ true) (λ x. (r ≡ false) × ((h : F) × Called g j (x, tt) false h))
+      × MatchOption o (r ≡ true) (λ x. (r ≡ false) × ((h : F) × Called g j (x, tt) false h))
       → s ≡ record { start = 0; end = n } → ((x : ℕ) (b : Bool) (q : F) → Called g f (x, tt) b q → (q ≡ f) × (b ≡ test x)) → r ≡ all_below n test
   all_of_range ran source closure = all_from_yields_List test u f r ran (YieldsList-from_range 0 n n source (omega arith)) closure ∙ all_range test n
 
   pub any_of_range : (xs : List ℕ) × (o : Option ℕ) × (j : F) × YieldsThen nat_range_steps s xs o u × FoldsTo (λ p x q. Called g p (x, tt) false q) f xs j
-          × MatchOption o (r ≡ false) (λ x. (r ≡ true) × ((h : F) × Called g j (x, tt) true h))
+      × MatchOption o (r ≡ false) (λ x. (r ≡ true) × ((h : F) × Called g j (x, tt) true h))
       → s ≡ record { start = 0; end = n } → ((x : ℕ) (b : Bool) (q : F) → Called g f (x, tt) b q → (q ≡ f) × (b ≡ test x)) → r ≡ any_below n test
   any_of_range ran source closure = any_from_yields_List test u f r ran (YieldsList-from_range 0 n n source (omega arith)) closure ∙ any_range test n
 
 module _ {F : Type 0} {g : Mut F (Bor ℕ × Unit {0}) Bool} {s : Range ℕ} (test : ℕ → Bool) (n : ℕ) (u : Range ℕ) {f : F} {r : Option ℕ} where
   pub find_of_range : (xs : List ℕ) × (j : F) × YieldsThen nat_range_steps s xs r u × FoldsTo (λ p x q. CalledAt g p x false q) f xs j
-          × MatchOption r (Unit {0}) (λ x. (h : F) × CalledAt g j x true h)
+      × MatchOption r (Unit {0}) (λ x. (h : F) × CalledAt g j x true h)
       → s ≡ record { start = 0; end = n } → ((x : ℕ) (b : Bool) (q : F) → CalledAt g f x b q → (q ≡ f) × (b ≡ test x)) → r ≡ found n test
   find_of_range ran source closure =
       let e : n + 0 ≡ n = omega arith in
@@ -194,19 +194,19 @@ module _ {F : Type 0} {g : Mut F (Bor ℕ × Unit {0}) Bool} {s : Range ℕ} (te
 module _ {A F : Type 0} {s : Iter A} (test : A → Bool) (d : A) (xs : List A) (u : Iter A) {f : F} where
   pub all_of_slice : {g : Mut F (Bor A × Unit {0}) Bool} {r : Bool}
       → (ys : List (Bor A)) × (o : Option (Bor A)) × (j : F) × YieldsThen fronts s ys o u × FoldsTo (λ p x q. Called g p (x, tt) true q) f ys j
-          × MatchOption o (r ≡ true) (λ x. (r ≡ false) × ((h : F) × Called g j (x, tt) false h))
+      × MatchOption o (r ≡ true) (λ x. (r ≡ false) × ((h : F) × Called g j (x, tt) false h))
       → iter_rest s ≡ xs → ((x : Bor A) (b : Bool) (q : F) → Called g f (x, tt) b q → (q ≡ f) × (b ≡ test x.now)) → r ≡ all_below (length xs) (at test d xs)
   all_of_slice {r = r} ran source closure = all_from_yields_List test u f r ran (YieldsList-from_slice xs source) closure ∙ all_places test d xs
 
   pub any_of_slice : {g : Mut F (Bor A × Unit {0}) Bool} {r : Bool}
       → (ys : List (Bor A)) × (o : Option (Bor A)) × (j : F) × YieldsThen fronts s ys o u × FoldsTo (λ p x q. Called g p (x, tt) false q) f ys j
-          × MatchOption o (r ≡ false) (λ x. (r ≡ true) × ((h : F) × Called g j (x, tt) true h))
+      × MatchOption o (r ≡ false) (λ x. (r ≡ true) × ((h : F) × Called g j (x, tt) true h))
       → iter_rest s ≡ xs → ((x : Bor A) (b : Bool) (q : F) → Called g f (x, tt) b q → (q ≡ f) × (b ≡ test x.now)) → r ≡ any_below (length xs) (at test d xs)
   any_of_slice {r = r} ran source closure = any_from_yields_List test u f r ran (YieldsList-from_slice xs source) closure ∙ any_places test d xs
 
   pub position_of_slice : {g : Mut F (Bor A × Unit {0}) Bool} {r : Option ℕ}
       → (ys : List (Bor A)) × (o : Option (Bor A)) × (j : F) × YieldsThen fronts s ys o u × FoldsTo (λ p x q. Called g p (x, tt) false q) f ys j
-          × MatchOption o (r ≡ None) (λ x. (r ≡ Some (length ys)) × ((h : F) × Called g j (x, tt) true h))
+      × MatchOption o (r ≡ None) (λ x. (r ≡ Some (length ys)) × ((h : F) × Called g j (x, tt) true h))
       → iter_rest s ≡ xs → ((x : Bor A) (b : Bool) (q : F) → Called g f (x, tt) b q → (q ≡ f) × (b ≡ test x.now)) → r ≡ found (length xs) (at test d xs)
   position_of_slice {r = r} ran source closure =
       position_from_yields_List test u f r ran (YieldsList-from_slice xs source) closure

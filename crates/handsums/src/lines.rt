@@ -1,6 +1,6 @@
 // The parts of a line that say what a sum gave; a comma and a space stand between two numbers of a list.
 use crate::dealt::Dealt;
-use printing::{listed, numbered, words};
+use printing::{list, numbered, words};
 use rules::{Four, Pair, Polynomials};
 
 // In brackets.
@@ -14,7 +14,7 @@ pub fn pair(pair: Pair) {
 pub fn polynomials(k: usize, all: Polynomials) {
     let Polynomials { a, a2, b, b2 } = all;
     let lines = [a, a2, b, b2];
-    listed(
+    list(
         b", ",
         lines
             .iter()
@@ -52,7 +52,7 @@ pub fn share_checked(dealt: &Dealt, m: u16, share: Pair) {
 // At box i, from box m.
 pub fn point_checked(dealt: &Dealt, i: u16, m: u16, four: Four) {
     let numbers = [four.alpha.0, four.alpha2.0, four.beta.0, four.beta2.0];
-    listed(b", ", numbers.into_iter());
+    list(b", ", numbers.into_iter());
     numbered(b" at box ", usize::from(i));
     numbered(b" from box ", usize::from(m));
     verdict(checking::point_check(dealt.group, dealt.k, dealt.c, i, m, four));

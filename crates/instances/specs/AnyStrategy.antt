@@ -8,7 +8,7 @@ use Rattle.std.specs.Prelude.{◌≡◌, Bool, true, false, List, [], ◌∷◌,
 use Rattle.std.proofs.Math.Path.{refl, ap}
 use Rattle.std.proofs.Common.{sym, subst, ◌∙◌}
 use Prim.Native.Nat.{ℕ, zero, suc}
-use Rattle.std.specs.Prelude.{Option, Some, None, is_some}
+use Rattle.std.specs.Prelude.{Some, None}
 use Rattle.rules.specs.declared.Four.{Four}
 use Rattle.rules.specs.declared.Pair.{Pair}
 use Rattle.rules.specs.Numbers.{is_box}

@@ -6,7 +6,7 @@
 use Rattle.std.specs.Prelude.{◌≡◌, refl, true, List, [], ◌∷◌, ◌≢◌, ℕ, zero, suc, ◌≤◌, ◌<◌, get_or}
 use Rattle.std.proofs.Common.{sym, ap, subst, ◌∙◌, not-suc-le-zero, le_of_suc-le-suc, arith}
 use Rattle.rules.specs.declared.Four.{Four}
-use Rattle.std.specs.Prelude.{Option, Some, None, is_some}
+use Rattle.std.specs.Prelude.{Some}
 use Rattle.rules.specs.declared.Pair.{Pair}
 use Rattle.rules.specs.Numbers.{groups, group_of}
 use Rattle.rules.specs.Matrices.{entry, zero_four}

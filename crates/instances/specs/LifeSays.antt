@@ -7,7 +7,7 @@ use Rattle.std.specs.Prelude.{◌≡◌, refl, true, ◌∷◌, ◌+◌, ◌≤�
 use Rattle.std.proofs.Common.{sym, ap, subst, ◌∙◌, arith}
 use Rattle.folds.specs.Below.{count_below}
 use Rattle.rules.specs.declared.Answer.{Answer}
-use Rattle.std.specs.Prelude.{Option, Some, None, is_some}
+use Rattle.std.specs.Prelude.{Some, is_some}
 use Rattle.rules.specs.declared.Point.TheVariants.{Held}
 use Rattle.rules.specs.Matrices.{entry}
 use Rattle.rules.specs.declared.Message.TheVariants.{Echo as echo}

@@ -3,7 +3,7 @@
 use Rattle.rules.specs.declared.Pair.{Pair}
 use Rattle.rules.specs.declared.Element.{Element}
 use Rattle.std.specs.Prelude.{◌≡◌, Bool, List, map, ℕ}
-use Rattle.std.specs.Prelude.{Option, Some, None, is_some}
+use Rattle.std.specs.Prelude.{Option, Some}
 use Rattle.rules.specs.declared.Marks.{Marks}
 use Rattle.rules.specs.declared.Place.{Place}
 use Rattle.rules.specs.declared.Point.TheVariants.{Held}

@@ -6,7 +6,7 @@ use Rattle.std.specs.Prelude.{◌≡◌, refl, true, List, ◌++◌, ℕ, take}
 use Rattle.std.proofs.Common.{sym, ap, ap₂, ◌∙◌, arith}
 use Rattle.rules.specs.declared.Element.{Element}
 use Rattle.rules.specs.declared.Group.{Group}
-use Rattle.std.specs.Prelude.{Option, Some, None, is_some}
+use Rattle.std.specs.Prelude.{Some, None}
 use Rattle.rules.specs.declared.Pair.{Pair}
 use Rattle.rules.specs.Numbers.{group_of}
 use Rattle.rules.specs.Matrices.{entry}

@@ -30,7 +30,7 @@ pub fn numbered(word: &[u8], x: usize) {
 
 // ---- lists: `between` stands before every number but the first
 
-pub fn listed<I: Iterator<Item = u16>>(between: &[u8], numbers: I)
+pub fn list<I: Iterator<Item = u16>>(between: &[u8], numbers: I)
     requires can { I.can_next numbers }
     requires ends { IsFinite (I.remaining numbers) }
 {
@@ -43,12 +43,12 @@ pub fn listed<I: Iterator<Item = u16>>(between: &[u8], numbers: I)
 
 // A list of two.
 pub fn pair(between: &[u8], pair: Pair) {
-    listed(between, [pair.first.0, pair.second.0].into_iter());
+    list(between, [pair.first.0, pair.second.0].into_iter());
 }
 
 // The first k rows and columns.
 pub fn matrix(between: &[u8], k: usize, c: [[Element; 8]; 8]) {
-    listed(
+    list(
         between,
         c.iter()
             .take(k)

@@ -14,7 +14,7 @@ use Rattle.folds.specs.Tests.{pick}
 use Rattle.folds.specs.Stores.{stores_list_more}
 use Rattle.folds.specs.Runs.{gather-same, take_more, map-take, map-gather, length_singles, get_or_singles}
 use Rattle.rules.specs.declared.Four.{Four}
-use Rattle.std.specs.Prelude.{Option, Some, None, is_some}
+use Rattle.std.specs.Prelude.{Option, Some, None}
 use Rattle.rules.specs.declared.Pair.{Pair}
 use Rattle.rules.specs.declared.Place.{Place}
 use Rattle.rules.specs.declared.Point.{Point}

@@ -9,7 +9,7 @@ use native.Mathlib.Omega.{arith}
 use lib.ListN.{length, get_or, take, length-take, length-map, get_or-map}
 use Rattle.folds.specs.Runs.{every_nil, every_cons, every_gather_below, every_take, Every}
 use Rattle.rules.specs.declared.Exponent.{Exponent}
-use Rattle.std.specs.Prelude.{Option, Some, None, is_some}
+use Rattle.std.specs.Prelude.{Option, Some, None}
 use Rattle.rules.specs.declared.Pair.{Pair}
 use Rattle.rules.specs.declared.Place.{Place}
 use Rattle.rules.specs.Record.{share_at}

@@ -1,11 +1,11 @@
 -- The array of a list of points, one more point, the sides of a sender's place, and what the functions ask.
 -- Assumes nothing.
-use Rattle.std.specs.Prelude.{Bool, true, false, List, map, ◌≡◌, ℕ, zero, suc, ◌+◌, ◌≤◌, ◌<◌, leb, length, get_or, set, replicate}
+use Rattle.std.specs.Prelude.{List, map, ◌≡◌, ℕ, zero, suc, ◌+◌, ◌≤◌, ◌<◌, leb, length, get_or, set, replicate}
 use Rattle.std.proofs.Common.{refl, ap, ◌∙◌, arith}
 use Rattle.folds.specs.Tests.{pick}
 use Rattle.folds.specs.Stores.{stores, stores_same, get_or-stores, get_or-map_part, map-set}
 use Rattle.rules.specs.declared.Four.{Four}
-use Rattle.std.specs.Prelude.{Option, Some, None, is_some}
+use Rattle.std.specs.Prelude.{Option, Some, None}
 use Rattle.rules.specs.declared.Pair.{Pair}
 use Rattle.rules.specs.declared.Place.{Place}
 use Rattle.rules.specs.declared.Point.{Point}

@@ -1,8 +1,8 @@
 -- What the tests over the whole record name beside the definitions of `rules`.
 -- Assumes nothing.
 use Rattle.rules.specs.declared.Pair.{Pair}
-use Rattle.std.specs.Prelude.{Bool, not, List, map, ℕ, eqb, leb, ltb, get_or}
-use Rattle.folds.specs.Tests.{◌and◌, ◌or◌, same, implies, pick}
+use Rattle.std.specs.Prelude.{Bool, not, List, ℕ, eqb, leb, ltb, get_or}
+use Rattle.folds.specs.Tests.{◌and◌, ◌or◌, same, implies}
 use Rattle.folds.specs.Below.{all_below, any_below, count_below}
 use Rattle.std.specs.Prelude.{Option, Some, None, is_some}
 use Rattle.rules.specs.declared.Marks.{Marks}

@@ -4,7 +4,7 @@
 -- Index m of an array that has a place for each box stands for box m + 1, and index s of the slots for place s.
 -- Assumes nothing.
 use Rattle.rules.specs.declared.Pair.{Pair}
-use Rattle.std.specs.Prelude.{Bool, true, false, not, List, [], map, ℕ, ◌+◌, ◌-◌, eqb, leb, ltb, get_or, replicate}
+use Rattle.std.specs.Prelude.{Bool, true, false, not, List, [], ℕ, ◌+◌, ◌-◌, eqb, leb, ltb, get_or, replicate}
 use Rattle.folds.specs.Tests.{◌and◌, ◌or◌, same, implies}
 use Rattle.folds.specs.Below.{all_below, any_below, count_below}
 use Rattle.rules.specs.declared.Element.{Element}

@@ -5,9 +5,9 @@ ghost use Rattle.arrayvec.specs.ArrayVec.{array_vec_len};
 ghost use Rattle.text.specs.Pages.{Adds};
 ghost use Rattle.sheet_reasons.specs.Reasons.{reason_text, line_text, sheet_bad, bad_text};
 
-use arrayvec::ArrayVec;
 use crate::bad::{Bad, sheet_bad};
 use crate::reasons::Reason;
+use arrayvec::ArrayVec;
 use text::page::{put_digits, put_word};
 
 #[tactic(auto, using(text::specs::Pages::adds_room), unfolding(crate::specs::Reasons::reason_text, rules::specs::Text::text))]

@@ -2,8 +2,8 @@
 --
 -- In order: one run of bytes; runs put one behind the other; a loop that puts them; what was put at the front.
 -- Assumes nothing.
-use Rattle.std.specs.Prelude.{List, [], ◌∷◌, ◌++◌, ◌≡◌, refl, ℕ, ◌+◌, ◌*◌, ◌<◌, ◌≤◌, length, get_or, set, take}
-use Rattle.std.proofs.Common.{append_assoc, sym, ap, ◌∙◌, add-one, arith, length-append, take-suc, length-take-le}
+use Rattle.std.specs.Prelude.{List, [], ◌∷◌, ◌++◌, ◌≡◌, refl, ℕ, ◌+◌, ◌*◌, ◌<◌, ◌≤◌, length, set}
+use Rattle.std.proofs.Common.{append_assoc, ap, ◌∙◌, arith, length-append}
 use Rattle.std.proofs.lemmas.List.Edits.{sets}
 use Rattle.std.proofs.Math.Seq.{length-sets}
 use Rattle.folds.specs.Runs.{gather, gather-zero, length-gather_more, sets_then, sets-gather, sets-front}

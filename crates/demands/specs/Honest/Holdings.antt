@@ -14,7 +14,7 @@ use Rattle.folds.specs.Tests.{and_left, and_right, or_cases, pick-either, trueâ‰
 use Rattle.folds.specs.Below.{any_below_here, any_below_some}
 use Rattle.rules.specs.declared.Element.{Element}
 use Rattle.rules.specs.declared.Four.{Four}
-use Rattle.std.specs.Prelude.{Option, Some, None, is_some}
+use Rattle.std.specs.Prelude.{Some, is_some}
 use Rattle.rules.specs.declared.Pair.{Pair}
 use Rattle.rules.specs.declared.Point.{Point}
 use Rattle.rules.specs.declared.Point.TheVariants.{Silent, Held}

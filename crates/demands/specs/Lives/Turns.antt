@@ -9,7 +9,7 @@ use Rattle.std.proofs.Common.{sym, ap, ◌∙◌}
 use Rattle.folds.specs.Tests.{◌and◌, pick, true≢false}
 use Rattle.rules.specs.declared.Element.{Element}
 use Rattle.rules.specs.declared.Four.{Four}
-use Rattle.std.specs.Prelude.{Option, Some, None, is_some}
+use Rattle.std.specs.Prelude.{Some, is_some}
 use Rattle.rules.specs.declared.Outcome.{Outcome}
 use Rattle.rules.specs.declared.Pair.{Pair}
 use Rattle.rules.specs.declared.Progress.{Progress}

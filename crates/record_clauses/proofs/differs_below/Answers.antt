@@ -1,9 +1,9 @@
-use Rattle.std.proofs.Common.{rules, ◌≡◌, ◌∙◌, sym, ap, not, Bool, refl}
+use Rattle.std.proofs.Common.{rules, ◌∙◌, ap, not, Bool, refl}
 use borrow.Author.Tests.{tests}
 use Rattle.folds.specs.Tests.{◌and◌}
 use Rattle.folds.specs.Below.{all_below_same}
 use Rattle.folds.specs.Chains.{all_of_range}
-use Rattle.rules.specs.Record.{matrix_of, same_matrix}
+use Rattle.rules.specs.Record.{matrix_of}
 use Rattle.rules.proofs.Laws.Sound.{agree_comm}
 use Rattle.record_reading.specs.Slots.{slot_in, has_matrix}
 use Rattle.record_clauses.specs.Clauses.{differ_from}

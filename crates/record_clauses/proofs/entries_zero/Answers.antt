@@ -1,5 +1,5 @@
 use Rattle.std.proofs.Common.{rules, refl, ◌≡◌, ◌∙◌}
-use Rattle.std.specs.Prelude.{Bool, true, false, [], eqb, ltb, get_or}
+use Rattle.std.specs.Prelude.{Bool, true, false, [], ltb, get_or}
 use borrow.Author.Tests.{tests}
 use Rattle.folds.specs.Tests.{◌and◌, ◌or◌}
 use Rattle.folds.specs.Below.{all_below_same}

@@ -1,7 +1,7 @@
 use Rattle.std.proofs.Common.{rules, refl, ◌≡◌, ◌∙◌, sym}
 use Rattle.std.specs.Prelude.{Bool, true, false, not, List, ℕ}
 use borrow.Author.Tests.{tests}
-use Rattle.folds.specs.Tests.{◌and◌, ◌or◌}
+use Rattle.folds.specs.Tests.{◌or◌}
 use Rattle.folds.specs.Below.{all_below_same, all_below_all}
 use Rattle.folds.specs.Chains.{all_of_range}
 use Rattle.rules.specs.declared.Slot.{Slot}

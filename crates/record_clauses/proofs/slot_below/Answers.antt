@@ -1,11 +1,10 @@
-use Rattle.std.proofs.Common.{rules, ◌≡◌, ◌∙◌, sym, ap, length, Bool}
+use Rattle.std.proofs.Common.{rules, ◌≡◌, ◌∙◌, sym, length}
 use Rattle.std.specs.Prelude.{get_or}
 use borrow.Author.Tests.{tests}
-use Rattle.folds.specs.Tests.{◌and◌}
 use Rattle.folds.specs.Below.{all_below}
 use Rattle.folds.specs.Chains.{all_of_slice}
 use Rattle.rules.specs.declared.Place.{Place}
-use Rattle.rules.specs.Record.{silent, place_at, point_below, kept_below, slot_below}
+use Rattle.rules.specs.Record.{silent, point_below, slot_below}
 use Rattle.record_clauses.proofs.slot_below.Goals as goal
 
 pub returns-then-all : goal.returns-then-all

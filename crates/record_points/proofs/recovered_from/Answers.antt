@@ -1,4 +1,3 @@
-use Rattle.std.proofs.Common.{rules}
 use Rattle.rules.specs.Steps.{recovered_from}
 use Rattle.interpolation.specs.Lagrange.{pair_through}
 use Rattle.record_points.proofs.Values.{kept_fit, kept_said}

@@ -1,4 +1,4 @@
-use Rattle.std.proofs.Common.{rules, sym, ◌∙◌}
+use Rattle.std.proofs.Common.{sym, ◌∙◌}
 use Rattle.folds.specs.Chains.{found_some, found_none, found_or}
 use Rattle.rules.specs.Steps.{own_slot, free_slot, slot_for}
 use Rattle.record_slots.specs.Found.{has_own, is_free}

@@ -1,5 +1,5 @@
-use Rattle.std.proofs.Common.{rules, ◌≡◌, ◌∙◌, sym, ap, arith}
-use Rattle.std.specs.Prelude.{Bool, ◌<◌}
+use Rattle.std.proofs.Common.{◌∙◌, sym, ap, arith}
+use Rattle.std.specs.Prelude.{◌<◌}
 use Rattle.rules.specs.declared.Group.{Group}
 use Rattle.rules.specs.Numbers.{group_of}
 use Rattle.rules.proofs.Laws.Numbers.{bounds, group_rule}

@@ -8,7 +8,7 @@ use Rattle.std.proofs.Common.{sym, ◌∙◌, arith}
 use Rattle.folds.specs.Tests.{◌or◌, or_false}
 use Rattle.folds.specs.Below.{any_below}
 use Rattle.rules.specs.declared.SetUp.{SetUp}
-use Rattle.std.specs.Prelude.{Option, Some, None, is_some}
+use Rattle.std.specs.Prelude.{Option, Some, is_some}
 use Rattle.rules.specs.declared.Marks.{Marks}
 use Rattle.rules.specs.declared.Slot.{Slot}
 use Rattle.rules.specs.declared.Progress.{Progress}

@@ -1,4 +1,4 @@
-use Rattle.std.proofs.Common.{rules, ◌≡◌, ◌∙◌, arith}
+use Rattle.std.proofs.Common.{◌≡◌, ◌∙◌, arith}
 use Rattle.std.specs.Prelude.{get_or}
 use Rattle.folds.specs.Runs.{gather-zero, gather-more}
 use Rattle.rules.specs.Record.{nothing}

@@ -1,8 +1,8 @@
 use Rattle.std.proofs.Common.{rules, ◌≡◌, ◌∙◌, refl, sym, length, arith}
-use Rattle.std.specs.Prelude.{Bool, true, false, List, ℕ, ◌<◌, ◌≢◌, leb, get_or, count_by}
+use Rattle.std.specs.Prelude.{Bool, true, false, List, ℕ, ◌<◌, ◌≢◌, leb, count_by}
 use borrow.Author.Tests.{lt-leb, ne_eqb}
 use Rattle.folds.specs.Tests.{◌and◌, implies, false_unless, true≢false}
-use Rattle.folds.specs.Below.{any_below, any_below_some, any_below_none, count_below, count_below_some, count_below_none, any_below_here}
+use Rattle.folds.specs.Below.{any_below, any_below_some, count_below, count_below_some, count_below_none, any_below_here}
 use Rattle.folds.specs.Chains.{count_places}
 use Rattle.rules.specs.declared.Side.{Side}
 use Rattle.rules.specs.declared.Slot.{Slot}

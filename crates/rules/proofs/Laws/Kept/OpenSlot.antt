@@ -2,14 +2,14 @@
 --
 -- In order: a matrix that fits; the new slot; the slot opened for a matrix.
 -- Assumes nothing.
-use Rattle.std.specs.Prelude.{◌≡◌, refl, true, List, [], ◌∷◌, map, ◌⊎◌, eqb, get_or}
+use Rattle.std.specs.Prelude.{◌≡◌, refl, true, List, [], ◌⊎◌, eqb, get_or}
 use Rattle.std.proofs.Math.Path.{sym, ap}
 use Rattle.std.proofs.Common.{◌∙◌, inl, inr, arith, lt-ltb, eq-eqb}
 use Rattle.std.proofs.Math.Bool.{Bool, false}
 use Prim.Native.Nat.{ℕ, ◌<◌}
 use Rattle.std.proofs.Math.Decide.{dec_lt}
 use Rattle.std.proofs.Math.Dec.{ltb}
-use Rattle.std.proofs.Math.ListN.{length, length-map, get_or-map}
+use Rattle.std.proofs.Math.ListN.{length}
 use Rattle.std.proofs.lemmas.List.{get_or-replicate}
 use Rattle.std.proofs.lemmas.Bool.{lt-leb}
 use Rattle.folds.specs.Tests.{◌and◌, ◌or◌, and_intro, or_left, or_right, or_none_lem, pick_true, pick-either, true≢false, decide}
