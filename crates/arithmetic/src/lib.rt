@@ -97,7 +97,7 @@ pub fn commit(group: Group, x: Exponent, y: Exponent) -> Element
     )
 }
 
-// Refusal 8 does not hold of this entry.
+// Refusal 8 does not hold of this entry. Its number is tested, and no element is made to compare it with.
 #[tactic(auto, unfolding(rules::specs::Dealing::in_group))]
 pub fn is_element(group: Group, e: Element) -> bool
     requires { 0 < group.p }

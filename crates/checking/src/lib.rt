@@ -11,7 +11,8 @@ ghost use Rattle.checking.specs.Equations.{Checkable, Line, element_at, along_pa
 use arithmetic::matrices::column;
 use rules::{Element, Exponent, Four, Group, Pair, Polynomials};
 
-// Group, k and C go side by side and in no struct, which is no plainer: the three checks would each build one, for one call or two.
+// Group, k and C go side by side and in no struct: the signatures of the checks are public and named in the documents. What is asked of
+// them is one record (`Checkable`).
 type Matrix = [[Element; 8]; 8];
 
 // ---- refusal 8

@@ -52,6 +52,7 @@ impl From<Kind> for Sent {
     }
 }
 
+// A deal may print its messages too, and a delivery find the record lent.
 #[derive(Clone, Copy)]
 pub enum Call {
     SetUp,

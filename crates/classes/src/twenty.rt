@@ -40,8 +40,15 @@ fn echoed(v: u16, m: u32, echo: &mut [u8; 2048])
     moves::told(Call::Deal { printed: false }, 1, 1, dealt.answer);
     let at = (m as usize - 1) * 31;
     let o = box_calls::deliver(new_box(m), 1, &sends[at..at + 31], echo);
-    let kind = Kind::Send;
-    moves::told(Call::Deliver { kind, lent: false }, 1, m, o.answer);
+    moves::told(
+        Call::Deliver {
+            kind: Kind::Send,
+            lent: false,
+        },
+        1,
+        m,
+        o.answer,
+    );
 }
 
 // At the end one more echo, of box 10, gets 7.

@@ -20,40 +20,24 @@ pub struct Bench {
     pub lent: usize,
 }
 
-// What a line comes to: the bench from now on, and whether the program ends.
-#[derive(Clone, Copy)]
-pub struct Turn {
-    pub bench: Bench,
-    pub ends: bool,
-}
-
 // No box: the all-zero record, as a refused set-up leaves it.
 pub fn new_bench() -> Bench {
-    let nobody = SetUp {
-        group: 0,
-        n: 0,
-        t: 0,
-        k: 0,
-        i: 0,
-        d: 0,
-        session: 0,
-    };
     Bench {
-        x: box_calls::set_up(nobody).next,
+        x: box_calls::set_up(SetUp::ZERO).next,
         lent: 2048,
     }
 }
 
 // The answer and the messages of a call; what it leaves is the bench's from now on. No more than 4,096 bytes are ever lent.
-fn told(lent: usize, o: Outcome, out: &[u8], page: &mut ArrayVec<u8, ROOM>) -> Turn
+fn told(lent: usize, o: Outcome, out: &[u8], page: &mut ArrayVec<u8, ROOM>) -> Option<Bench>
     requires { array_vec_len page.old ≡ 0 }
 {
     let bench = Bench { x: o.next, lent };
     if 4096 < out.len() {
-        return Turn { bench, ends: true };
+        return None;
     }
     console_page::answers::put_call(page, bench.x.setup.n as usize, o.answer, out);
-    Turn { bench, ends: false }
+    Some(bench)
 }
 
 fn deal(
@@ -62,7 +46,7 @@ fn deal(
     coins: &[u16],
     out: &mut [u8],
     page: &mut ArrayVec<u8, ROOM>,
-) -> Turn
+) -> Option<Bench>
     requires { array_vec_len page.old ≡ 0 }
 {
     let o = box_calls::deal(bench.x, secret, coins, out);
@@ -75,28 +59,25 @@ fn deliver(
     bytes: &[u8],
     out: &mut [u8],
     page: &mut ArrayVec<u8, ROOM>,
-) -> Turn
+) -> Option<Bench>
     requires { array_vec_len page.old ≡ 0 }
 {
     let o = box_calls::deliver(bench.x, sender, bytes, out);
     told(bench.lent, o, out, page)
 }
 
-fn recover(bench: Bench, out: &mut [u8], page: &mut ArrayVec<u8, ROOM>) -> Turn
+fn recover(bench: Bench, out: &mut [u8], page: &mut ArrayVec<u8, ROOM>) -> Option<Bench>
     requires { array_vec_len page.old ≡ 0 }
 {
     let o = box_calls::command_recovery(bench.x, out);
     told(bench.lent, o, out, page)
 }
 
-fn lend(x: Record, lent: usize, page: &mut ArrayVec<u8, ROOM>) -> Turn
+fn lend(x: Record, lent: usize, page: &mut ArrayVec<u8, ROOM>) -> Option<Bench>
     requires { array_vec_len page.old ≡ 0 }
 {
     console_page::answers::put_lent(page, lent);
-    Turn {
-        bench: Bench { x, lent },
-        ends: false,
-    }
+    Some(Bench { x, lent })
 }
 
 // What changes no box: the lines that a word asks for, and none for a comment or an empty line.
@@ -122,7 +103,7 @@ fn call(
     bytes: &[u8],
     out: &mut [u8],
     page: &mut ArrayVec<u8, ROOM>,
-) -> Turn
+) -> Option<Bench>
     requires { (length coins.now ≡ 4096) × Ready said bytes.now × (array_vec_len page.old ≡ 0) }
 {
     match said {
@@ -137,19 +118,19 @@ fn call(
         ),
         Said::Recover => return recover(bench, out, page),
         Said::Lend(lent) => return lend(bench.x, lent, page),
-        Said::Quit => return Turn { bench, ends: true },
+        Said::Quit => return None,
         _ => lines(bench.x, said, bytes, page),
     }
-    Turn { bench, ends: false }
+    Some(bench)
 }
 
-// The buffers have room for 4,096 coins, 4,096 bytes of a message, and 4,096 bytes that are lent.
-fn answer(bench: Bench, line: &[u8], page: &mut ArrayVec<u8, ROOM>) -> Turn
+// The buffers, lent since memory is fixed, have room for 4,096 coins, 4,096 bytes of a message, and 4,096 bytes that are lent.
+fn answer(bench: Bench, line: &[u8], page: &mut ArrayVec<u8, ROOM>) -> Option<Bench>
     requires { (length line.now ≤ 8192) × (array_vec_len page.old ≡ 0) }
 {
     let lent = bench.lent;
     if 4096 < lent {
-        return Turn { bench, ends: true };
+        return None;
     }
     let mut coins = [0u16; 4096];
     let mut bytes = [0u8; 4096];
@@ -159,8 +140,8 @@ fn answer(bench: Bench, line: &[u8], page: &mut ArrayVec<u8, ROOM>) -> Turn
     call(bench, said, &coins, &bytes, &mut out[0..lent], page)
 }
 
-// What the next line comes to; the program ends with its input.
-pub fn take(bench: Bench, line: Line, space: &[u8], page: &mut ArrayVec<u8, ROOM>) -> Turn
+// What the next line comes to: the bench from now on, and none where the program ends, as it does with its input.
+pub fn take(bench: Bench, line: Line, space: &[u8], page: &mut ArrayVec<u8, ROOM>) -> Option<Bench>
     requires { Taking line space.now }
 {
     page.clear();
@@ -169,9 +150,9 @@ pub fn take(bench: Bench, line: Line, space: &[u8], page: &mut ArrayVec<u8, ROOM
         Line::TooLong => reasons::put(page, Reason::TooLong),
         Line::Cut => {
             reasons::put(page, Reason::CutOff);
-            return Turn { bench, ends: true };
+            return None;
         }
-        Line::End => return Turn { bench, ends: true },
+        Line::End => return None,
     }
-    Turn { bench, ends: false }
+    Some(bench)
 }

@@ -26,10 +26,13 @@ fn main(rt: HostRuntime) {
     for _ in 0..u64::MAX {
         let next = lines::next_line(input, &mut space, held);
         held = next.held;
-        let turn = calls::take(bench, next.line, &space, &mut page);
-        bench = turn.bench;
-        if !written(page.as_slice()) || turn.ends {
+        let after = calls::take(bench, next.line, &space, &mut page);
+        if !written(page.as_slice()) {
             return;
         }
+        let Some(after) = after else {
+            return;
+        };
+        bench = after;
     }
 }

@@ -25,7 +25,7 @@ pub struct Held {
 
 const NOTHING: Held = Held { from: 0, to: 0 };
 
-// A line, without its newline, from one place of the buffer to another; one that is too long, skipped to its end; one that the
+// A line, without its newline, from one place of the buffer to another (as `Held` is); one that is too long, skipped to its end; one that the
 // end of the input cut off; or the end of the input.
 #[derive(Clone, Copy)]
 pub enum Line {

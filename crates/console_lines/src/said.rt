@@ -38,7 +38,7 @@ pub enum Said {
     Bad(Reason),
 }
 
-// The number that stands at a place, and 0 where none does.
+// The number that stands at a place, and 0 where none does, as `Says.number_at` has it.
 #[tactic(auto, unfolding(crate::specs::Says::number_at))]
 fn number_at(line: &[u8], place: usize) -> u16
     ensures { result ≡ number_at line.now place }

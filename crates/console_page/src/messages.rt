@@ -8,7 +8,7 @@ ghost use Rattle.console_page.specs.Reading.{numbers_text, row_number, entries_t
 use arrayvec::ArrayVec;
 use rules::{Element, Exponent, Four, Polynomials};
 
-// The k entries of a row.
+// The k entries of a row: a line of its own, under this crate's definition of its text.
 fn put_row<const N: usize>(page: &mut ArrayVec<u8, N>, k: usize, row: [Element; 8])
     requires { (k ≤ 8) × (array_vec_len page.old + 48 ≤ N) }
     ensures { Adds page.old (numbers_text k (row_number row)) 48 page.new }

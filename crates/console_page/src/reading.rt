@@ -22,15 +22,7 @@ use rules::SetUp;
 fn of_width(k: u32) -> SetUp
     ensures { result ≡ of_width k }
 {
-    SetUp {
-        group: 0,
-        n: 0,
-        t: 0,
-        k,
-        i: 0,
-        d: 0,
-        session: 0,
-    }
+    SetUp { k, ..SetUp::ZERO }
 }
 
 // None for bytes that are no message.

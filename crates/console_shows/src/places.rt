@@ -9,7 +9,7 @@ use record_reading::count_marks;
 use rules::{Element, SetUp, Slot};
 use text::page::{put_numbered, put_numbers, put_word};
 
-// As many entries of a row as the matrix has columns in use.
+// As many entries of a row as the matrix has columns in use: a line of its own, under this crate's definition of its text.
 fn put_row<const N: usize>(page: &mut ArrayVec<u8, N>, width: usize, row: [Element; 8])
     requires { (width ≤ 8) × (array_vec_len page.old + 48 ≤ N) }
     ensures { Adds page.old (row_text width row) 48 page.new }

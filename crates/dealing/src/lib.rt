@@ -122,11 +122,5 @@ pub fn echo_fours(q: u16, k: usize, n: usize, all: Polynomials) -> [Four; 10]
     requires { ForBoxes q k n }
     ensures { result ≡ to_boxes n zero_four (echo_four q k all) }
 {
-    let zero = Four {
-        alpha: Exponent(0),
-        alpha2: Exponent(0),
-        beta: Exponent(0),
-        beta2: Exponent(0),
-    };
-    filled(zero, n, |j| echo_four(q, k, all, j as u16 + 1))
+    filled(Four::ZERO, n, |j| echo_four(q, k, all, j as u16 + 1))
 }

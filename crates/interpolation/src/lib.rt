@@ -18,7 +18,7 @@ pub struct Numbered {
     pub pair: Pair,
 }
 
-// As many points as `count` says, and zeros behind: memory is fixed.
+// As many points as `count` says, and zeros behind: memory is fixed. No ArrayVec, which is not copied: points go by value.
 #[derive(Clone, Copy)]
 pub struct Points {
     pub count: usize,

@@ -1,7 +1,7 @@
 // Writers. One that puts numbers gets a slice and a place, and hands the place behind them back: document 01 names the form, the
-// buffer's mutable tail, and so no page. One that writes a message
-// gets the tail of the outgoing buffer, writes the message at its front and hands its length back; the bytes behind keep
-// their values. One that writes to every box writes n messages, each directly behind the one before.
+// buffer's mutable tail, and so no page. One that writes a message gets the tail of the outgoing buffer, writes the message at its
+// front and hands its length back; the bytes behind keep their values. One that writes to every box writes n messages, each directly
+// behind the one before.
 #![tactic(auto)]
 
 ghost use Rattle.std.specs.Prelude.{[], ◌∷◌, ◌++◌, ℕ, ◌+◌, ◌-◌, ◌*◌, ◌<◌, ◌≤◌, length, get_or};

@@ -11,7 +11,7 @@ ghost use Rattle.record_points.specs.Points.{Lowest};
 
 use arithmetic::matrices::filled;
 use points::Drawn;
-use rules::{Exponent, Four, Pair, Place};
+use rules::{Four, Pair, Place};
 
 // The pair to keep, and what goes to boxes 1 to n; box 1's stands at 0.
 #[derive(Clone, Copy)]
@@ -29,14 +29,8 @@ pub fn ready_from(q: u16, k: usize, n: usize, places: [Place; 10]) -> Ready
     let columns = points::points_held(places, k, Drawn::Columns);
     let inverse = interpolation::inverses(q, rows);
     let pair = interpolation::pair_at(q, rows, inverse, 0);
-    let zero = Four {
-        alpha: Exponent(0),
-        alpha2: Exponent(0),
-        beta: Exponent(0),
-        beta2: Exponent(0),
-    };
     let fours = filled(
-        zero,
+        Four::ZERO,
         n,
         |j| interpolation::four_at(q, rows, columns, inverse, j as u16 + 1),
     );

@@ -18,7 +18,7 @@ pub fn is_held(place: Place) -> bool
     }
 }
 
-// Whether sender m + 1 is heard for the tag.
+// Whether sender m + 1 is heard for the tag, a number as in `heard_for`.
 pub fn is_heard(x: Record, tag: u8, m: usize) -> bool
     requires { HasMark tag m }
     ensures { result ≡ heard_for x tag m }

@@ -8,7 +8,7 @@ ghost use Rattle.folds.specs.Below.{found};
 ghost use Rattle.rules.specs.Steps.{opened, keeping, slot_for, taken};
 ghost use Rattle.record_slots.specs.Found.{has_own, is_free, held_by};
 
-use rules::{Element, Four, Marks, Pair, Place, Point, Record, SetUp, Side, Slot};
+use rules::{Element, Four, Pair, Place, Point, Record, SetUp, Side, Slot};
 
 // The place of a matrix in use.
 fn own_slot(slots: &[Slot; 20], k: usize, c: [[Element; 8]; 8]) -> Option<usize>
@@ -26,7 +26,7 @@ fn free_slot(slots: &[Slot; 20]) -> Option<usize>
     slots.iter().position(|slot| !slot.used)
 }
 
-// The place of the matrix: its own, or the lowest unused; 20 where there is neither, as `Steps.slot_for` has it.
+// The place of the matrix: its own, or the lowest unused; 20 where there is neither, as `Steps.slot_for` has it, whom theorems name.
 pub fn slot_for(x: Record, c: [[Element; 8]; 8]) -> usize
     requires { x.setup.k ≤ 8 }
     ensures { result ≡ slot_for x c }
@@ -45,17 +45,10 @@ pub fn opened_for(c: [[Element; 8]; 8], slot: Slot) -> Slot
     if slot.used {
         return slot;
     }
-    let silent = Place {
-        point: Point::Silent,
-    };
-    let none = Marks { at: [false; 10] };
     Slot {
         used: true,
         rows: c,
-        places: [silent; 10],
-        echoed: none,
-        readied: none,
-        pair: None,
+        ..Slot::EMPTY
     }
 }
 

@@ -12,7 +12,7 @@ ghost use Rattle.record_writing.specs.Anew.{dealt_after, commanded_after};
 
 use rules::{Pair, Record, Side, Slot};
 
-// Sender m + 1 is heard for the tag.
+// Sender m + 1 is heard for the tag, a number as in `Steps.heard`.
 #[tactic(auto, unfolding(rules::specs::Steps::heard))]
 pub fn heard_for(mut x: Record, tag: usize, m: usize) -> Record
     requires { HasMark tag m }

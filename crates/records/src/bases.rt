@@ -32,16 +32,7 @@ pub fn text(bytes: &[u8]) -> &str {
 
 // No box: all zero, as a refused set-up leaves it.
 pub fn zero() -> Record {
-    let nobody = SetUp {
-        group: 0,
-        n: 0,
-        t: 0,
-        k: 0,
-        i: 0,
-        d: 0,
-        session: 0,
-    };
-    box_calls::set_up(nobody).next
+    box_calls::set_up(SetUp::ZERO).next
 }
 
 // The base of this name; no box by any other.

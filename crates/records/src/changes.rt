@@ -17,7 +17,7 @@
 // Another number that is not said counts as 0.
 ghost use Rattle.std.specs.Prelude.{◌≤◌, ◌<◌};
 
-use rules::{Element, Exponent, Four, Marks, Pair, Point, Record, SetUp};
+use rules::{Element, Exponent, Four, Marks, Pair, Point, Record, SetUp, Side};
 use std::array;
 
 // Places, tags, boxes, rows and columns as they are said, in range or not.
@@ -34,7 +34,7 @@ enum Change {
     Used(usize, bool),
     Entry(usize, usize, usize, Element),
     Place(usize, usize, Point),
-    Mark(usize, usize, Marks),
+    Mark(usize, Side, Marks),
     Kept(usize, Option<Pair>),
 }
 
@@ -62,6 +62,15 @@ fn set_up(numbers: [Option<usize>; 7]) -> SetUp {
         i,
         d,
         session,
+    }
+}
+
+// By tag 2 for echo, else for ready.
+fn side(tag: usize) -> Side {
+    if tag == 2 {
+        Side::ByEcho
+    } else {
+        Side::ByReady
     }
 }
 
@@ -110,7 +119,7 @@ fn change_in(text: &str) -> Option<Change> {
         "used" => Change::Used(first, second == 1),
         "entry" => Change::Entry(first, second, c.unwrap_or(0), Element(short(d))),
         "place" => Change::Place(first, second, point([c, d, e, f])),
-        "mark" => Change::Mark(first, second, marks(&numbers[2..])),
+        "mark" => Change::Mark(first, side(second), marks(&numbers[2..])),
         "kept" => Change::Kept(first, pair([b, c])),
         _ => return None,
     })
@@ -154,8 +163,8 @@ fn changed(mut next: Record, change: Change) -> Record {
         Change::Used(s, used) => next.slots[slot(s)].used = used,
         Change::Entry(s, j, l, e) => next.slots[slot(s)].rows[at(j, 0, 8)][at(l, 0, 8)] = e,
         Change::Place(s, i, point) => next.slots[slot(s)].places[seat(i)].point = point,
-        Change::Mark(s, 2, marks) => next.slots[slot(s)].echoed = marks,
-        Change::Mark(s, _, marks) => next.slots[slot(s)].readied = marks,
+        Change::Mark(s, Side::ByEcho, marks) => next.slots[slot(s)].echoed = marks,
+        Change::Mark(s, Side::ByReady, marks) => next.slots[slot(s)].readied = marks,
         Change::Kept(s, pair) => next.slots[slot(s)].pair = pair,
     }
     next

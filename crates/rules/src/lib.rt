@@ -120,6 +120,17 @@ impl SetUp {
     // What every call that can send wants of the outgoing buffer.
     pub const LENT: usize = 2_048;
 
+    // What the all-zero record has.
+    pub const ZERO: SetUp = SetUp {
+        group: 0,
+        n: 0,
+        t: 0,
+        k: 0,
+        i: 0,
+        d: 0,
+        session: 0,
+    };
+
     // The echo quorum E.
     #[tactic(auto, unfolding(crate::specs::Numbers::echo_quorum))]
     pub fn echo_quorum(self) -> u32
@@ -139,6 +150,16 @@ pub struct Four {
     pub alpha2: Exponent,
     pub beta: Exponent,
     pub beta2: Exponent,
+}
+
+impl Four {
+    // What stands for no box's.
+    pub const ZERO: Four = Four {
+        alpha: Exponent(0),
+        alpha2: Exponent(0),
+        beta: Exponent(0),
+        beta2: Exponent(0),
+    };
 }
 
 // A box's polynomials a, a', b, b': coefficients lowest first, the first k in use.
@@ -189,7 +210,7 @@ pub enum Side {
 }
 
 impl Side {
-    // The tag of its messages.
+    // The tag of its messages, a number of document 01.
     pub fn tag(self) -> u8
         ensures { result ≡ side_tag self }
     {
@@ -206,8 +227,14 @@ pub struct Marks {
     pub at: [bool; 10],
 }
 
+impl Marks {
+    // Nobody's.
+    pub const NONE: Marks = Marks { at: [false; 10] };
+}
+
 // One of the 20 numbered places for a matrix met in checked echoes or readies: its rows, its senders' places,
-// who is marked for echo and for ready, and the pair (a(0), a'(0)) kept when this box sent ready for it.
+// who is marked for echo and for ready, and the pair (a(0), a'(0)) kept when this box sent ready for it. Use is stored and the
+// parts stand side by side, since document 01 speaks of matrices not in use and definitions name each part.
 #[derive(Clone, Copy)]
 pub struct Slot {
     pub used: bool,
@@ -216,6 +243,20 @@ pub struct Slot {
     pub echoed: Marks,
     pub readied: Marks,
     pub pair: Option<Pair>,
+}
+
+impl Slot {
+    // One that is not in use.
+    pub const EMPTY: Slot = Slot {
+        used: false,
+        rows: [[Element(0); 8]; 8],
+        places: [Place {
+            point: Point::Silent,
+        }; 10],
+        echoed: Marks::NONE,
+        readied: Marks::NONE,
+        pair: None,
+    };
 }
 
 // What the box has done: dealt, completed (with the matrix of which slot), been commanded to recover.
@@ -278,7 +319,7 @@ pub enum Refusal {
 }
 
 impl Refusal {
-    // Its number in the table.
+    // Its number in the table, document 01's.
     pub fn number(self) -> u8
         ensures { result ≡ refusal_number self }
     {
@@ -333,7 +374,7 @@ pub struct Outcome {
 
 // ---- The recovery sheet
 
-// What the sheet says of a box: silent, verified, or refused.
+// What the sheet says of a box: silent, verified, or refused. Three words, of which none is the absence of the others.
 #[derive(Clone, Copy)]
 pub enum Verdict {
     Silent,

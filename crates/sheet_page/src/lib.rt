@@ -1,5 +1,5 @@
 // The recovery sheet: what a sheet prints, at the front of a lent page of 512 bytes or more. It asks for nothing: a shorter
-// page stays as it is, and the answer is 0.
+// page stays as it is, and the answer is 0, as `Prints` has it.
 #![tactic(auto)]
 
 ghost use Rattle.std.specs.Prelude.{◌+◌, ◌≤◌};
@@ -72,6 +72,5 @@ pub fn print(b: &[u8], page: &mut [u8]) -> usize
     }
     let mut lines = ArrayVec::<u8, PAGE>::new();
     put_sheet(&mut lines, b);
-    page[..lines.len()].copy_from_slice(&lines);
-    lines.len()
+    text::page::copy_to(&lines, page)
 }

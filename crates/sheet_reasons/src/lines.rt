@@ -2,7 +2,7 @@
 ghost use Rattle.std.specs.Prelude.{◌≡◌};
 ghost use Rattle.sheet_reasons.specs.Lines.{first_word, behind_line, line_start, in_line, spaces_in};
 
-// The first place from i on where this word stands.
+// The first place from i on where this word stands; the end where it stands nowhere, as `Lines.first_word` has it.
 pub fn first_word(b: &[u8], i: usize, w: &[u8]) -> usize
     ensures { result ≡ first_word b.now i w.now }
 {
