@@ -1,3 +1,2 @@
--- Filled arrays; and powers, as the loops of this crate and of those above it carry them on.
-pub mod Matrices
+-- Powers, as the loops of this crate and of those above it carry them on.
 pub mod Powers

@@ -2,8 +2,6 @@
 // take the other. Every function asks for a modulus above 0; ranges beyond that are said where they are needed.
 #![tactic(auto)]
 
-pub mod matrices;
-
 ghost use Rattle.std.specs.Prelude.{◌≡◌, ◌+◌, ◌-◌, ◌*◌, ◌%◌, ◌^◌, ◌<◌, ◌≤◌};
 ghost use Rattle.algebra.specs.Residues.{inverse};
 ghost use Rattle.rules.specs.Numbers.{exponent, element};

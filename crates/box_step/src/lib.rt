@@ -2,11 +2,10 @@
 #![tactic(auto)]
 
 ghost use Rattle.std.specs.Prelude.{◌≡◌};
-ghost use Rattle.rules.specs.Refusals.{refusal_number};
 ghost use Rattle.rules.specs.Answers.{no_pair, refused};
 ghost use Rattle.box_step.specs.Told.{quietly, sends, told};
 
-use rules::{Answer, Exponent, Outcome, Pair, Record, Refusal, Sent};
+use rules::{Answer, Exponent, Outcome, Pair, Record, Sent};
 
 // What is sent stands at the front of the lent buffer: here is how many bytes it takes.
 #[derive(Clone, Copy)]
@@ -66,12 +65,12 @@ pub fn accept(step: Step) -> Outcome
 
 // A refusal gives its number and otherwise zeros.
 #[tactic(auto, unfolding(rules::specs::Answers::refused))]
-pub fn refuse(next: Record, refusal: Refusal) -> Outcome
-    ensures { result ≡ refused (refusal_number refusal) next }
+pub fn refuse(next: Record, no: u8) -> Outcome
+    ensures { result ≡ refused no next }
 {
     Outcome {
         answer: Answer {
-            no: refusal.number(),
+            no,
             sent: Sent::Nothing,
             bytes: 0,
             completed: false,

@@ -88,15 +88,15 @@ tells what e same w = record { step = e ∙ ap₂ (λ y n. sends y what n) same 
 -- ---- the way that an echo or a ready goes
 
 -- one more sender heard changes no slot
-heard_slot : (x : Record) (tag m : ℕ) (C : List (List Element)) → slot_for x C ≡ slot_for (heard x tag m) C
+pub heard_slot : (x : Record) (tag m : ℕ) (C : List (List Element)) → slot_for x C ≡ slot_for (heard x tag m) C
 unfolding heard slot_for own_slot free_slot
 heard_slot x tag m C = refl
 
-side_hears : (b : Side) (x : Record) (m : ℕ) → heard_for x (side_tag b) m ≡ false → hears x (ear b) m ≡ false
+pub side_hears : (b : Side) (x : Record) (m : ℕ) → heard_for x (side_tag b) m ≡ false → hears x (ear b) m ≡ false
 side_hears ByEcho x m e = e
 side_hears ByReady x m e = e
 
-point_at_lem : (b : Side) (x : Record) (m : ℕ) (C : List (List Element)) (f : Four) {s : ℕ} {slot : Slot} → s ≡ slot_for x C
+pub point_at_lem : (b : Side) (x : Record) (m : ℕ) (C : List (List Element)) (f : Four) {s : ℕ} {slot : Slot} → s ≡ slot_for x C
     → slot ≡ taken b (opened C (slot_at x s)) m f → point_step b x m C f ≡ point_at b x s slot
 unfolding point_step
 point_at_lem b x m C f found fresh = rw (fresh, found)
@@ -172,7 +172,7 @@ pub record CoinRanges (u : SetUp) (secret : ℕ) (coins : List ℕ) : Type 0 whe
   pub first : 0 + u.k * u.k ≤ length coins + 1
   pub both : u.k * u.k + u.k * u.k ≤ length coins + 1
 
-coin_ranges : (u : SetUp) (secret : ℕ) (coins : List ℕ) → 1 ≤ u.k → coins_keep u secret coins ≡ true → CoinRanges u secret coins
+pub coin_ranges : (u : SetUp) (secret : ℕ) (coins : List ℕ) → 1 ≤ u.k → coins_keep u secret coins ≡ true → CoinRanges u secret coins
 coin_ranges u secret coins l h =
     let count = coins_count u secret coins h in
     let some = square_some u.k l in

@@ -8,7 +8,7 @@ ghost use Rattle.rules.specs.Numbers.{element};
 ghost use Rattle.rules.specs.Dealing.{in_group, matrix_passes, coefficients_below, polynomials_below, four_below, pair_below, opens, l_equation, j_equation, polynomial_check, opened_at, point_check, share_check};
 ghost use Rattle.checking.specs.Equations.{Checkable, Line, element_at, along_part, along_line};
 
-use arithmetic::matrices::column;
+use matrices::column;
 use rules::{Element, Exponent, Four, Group, Pair, Polynomials};
 
 // Group, k and C go side by side and in no struct: the signatures of the checks are public and named in the documents. What is asked of

@@ -8,7 +8,7 @@ ghost use Rattle.rules.specs.Matrices.{row};
 ghost use Rattle.rules.specs.Dealing.{from_coins, coins_keep};
 ghost use Rattle.coins.specs.Asked.{Dealable};
 
-use arithmetic::matrices::filled;
+use matrices::filled;
 use rules::{Exponent, SetUp};
 
 fn coins_below(q: u16, coins: &[u16]) -> bool

@@ -44,8 +44,8 @@ fn number_at(line: &[u8], place: usize) -> u16
     ensures { result ≡ number_at line.now place }
 {
     match text::read::decimal_at(line, place) {
-        Some(x) => x.number,
-        None => 0,
+        Ok(x) => x.number,
+        Err(_) => 0,
     }
 }
 

@@ -101,7 +101,7 @@ pub fn form_of(word: Word) -> Form
 fn number_keeps(line: &[u8], from: usize, limit: u16) -> bool
     ensures { result ≡ number_keeps line.now from limit }
 {
-    let Some(x) = text::read::decimal_at(line, from) else {
+    let Ok(x) = text::read::decimal_at(line, from) else {
         return false;
     };
     x.end == crate::items::item_end(line, from) && x.number <= limit

@@ -1,12 +1,13 @@
 -- Numbers as text beside `decimal` of `rules`, which is for one below 100,000.
 --
--- In order: two numbers; one of any size that code counts with, which is `decimal` below 100,000.
+-- In order: two numbers; one of any size that code counts with, which is `decimal` below 100,000; a power of ten
+-- and the next.
 -- Assumes nothing.
 use mathlib.Core.List.{List, [], ◌∷◌, ◌++◌}
 use Rattle.std.specs.Prelude.{◌≡◌, ltb}
 use Rattle.std.proofs.Math.Path.{refl, ap, ap₂}
-use Rattle.std.proofs.Common.{arith, lt-ltb}
-use Prim.Native.Nat.{ℕ, zero, suc, ◌-◌, ◌^◌, ◌<◌, ◌≤◌}
+use Rattle.std.proofs.Common.{◌∙◌, pow-suc, mul-div_cancel, arith, lt-ltb}
+use Prim.Native.Nat.{ℕ, zero, suc, ◌+◌, ◌-◌, ◌/◌, ◌^◌, ◌<◌, ◌≤◌}
 use Rattle.std.proofs.Math.Nat.{pow-le-pow_right}
 use Rattle.folds.specs.Tests.{pick}
 use Rattle.folds.specs.Runs.{gather}
@@ -36,3 +37,11 @@ module _ (x : ℕ) (small : x < 100000) where
   unfolding gather numeral decimal
   numeral_small =
       ap (λ (t : List ℕ). t ++ piece_of x 15 ++ piece_of x 16 ++ piece_of x 17 ++ piece_of x 18 ++ digit_of x 1 ∷ []) (none_above 15 (omega arith))
+
+-- ---- the powers of ten
+
+-- a tenth of a power of ten is the next
+pub power_next : (j : ℕ) {power : ℕ} → j < 19 → power ≡ 10 ^ (19 - j) → power / 10 ≡ 10 ^ (19 - (j + 1))
+power_next j h counts =
+    let e : 19 - j ≡ suc (19 - (j + 1)) = omega arith in
+    ap (λ (n : ℕ). n / 10) (counts ∙ ap (λ (n : ℕ). 10 ^ n) e ∙ pow-suc 10 (19 - (j + 1))) ∙ mul-div_cancel (10 ^ (19 - (j + 1))) (omega arith)

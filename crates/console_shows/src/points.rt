@@ -50,7 +50,7 @@ fn put_point_line<const N: usize>(page: &mut ArrayVec<u8, N>, slot: Slot, m: usi
     requires { (m < 10) × (array_vec_len page.old + 41 ≤ N) }
     ensures { Adds page.old (point_line slot m) 41 page.new }
 {
-    put_decimal(page, m as u16 + 1);
+    put_decimal(page, m as u32 + 1);
     put_point(
         page,
         slot.echoed.at[m],

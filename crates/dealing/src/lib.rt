@@ -9,7 +9,7 @@ ghost use Rattle.rules.specs.Dealing.{committed, commitment, value_at, along_y, 
 ghost use Rattle.rules.specs.Steps.{echo_four};
 ghost use Rattle.dealing.specs.Rows.{ForBoxes, zero_polynomials};
 
-use arithmetic::matrices::{column, filled};
+use matrices::{column, filled};
 use rules::{Element, Exponent, Four, Group, Polynomials};
 
 type Square = [[Exponent; 8]; 8];

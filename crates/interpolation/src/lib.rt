@@ -8,7 +8,7 @@ ghost use Rattle.rules.specs.Numbers.{exponent};
 ghost use Rattle.interpolation.specs.Points.{boxes_of, box_at, said_by};
 ghost use Rattle.interpolation.specs.Lagrange.{Fit, Based, Sides, inverse_row, weight_row, weighted_sum, weighted_pair, pair_through, four_through};
 
-use arithmetic::matrices::filled;
+use matrices::filled;
 use rules::{Exponent, Four, Pair};
 
 // The box that a point stands at, and its pair of numbers there.

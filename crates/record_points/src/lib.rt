@@ -9,7 +9,7 @@ ghost use Rattle.rules.specs.Matrices.{to_boxes, zero_four};
 ghost use Rattle.rules.specs.Steps.{points, share_points, pair_from, ready_four, recovered_from};
 ghost use Rattle.record_points.specs.Points.{Lowest};
 
-use arithmetic::matrices::filled;
+use matrices::filled;
 use points::Drawn;
 use rules::{Four, Pair, Place};
 

@@ -19,8 +19,8 @@ pub fn lines(text: &[u8]) {
     for line in bases::text(text).lines() {
         if let Some((name, said)) = line.split_once(':') {
             let (base, said) = said.split_once(',').unwrap_or((said, ""));
-            printing::words(name.as_bytes());
-            printing::words(b":");
+            // the name with its colon, in one write
+            printing::words(&line.as_bytes()[..name.len() + 1]);
             offered(changes::all(bases::base(base.trim()), said), &mut [0; 2048]);
         }
     }

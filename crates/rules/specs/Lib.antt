@@ -1,4 +1,4 @@
--- Document 01 as definitions, in its order and its words: what a reader must believe stands in the first nine files, and
+-- Document 01 as definitions, in its order and its words: what a reader must believe stands in the first ten files, and
 -- only there. Then the sums done by hand, and cases that pin a sentence with a number, a text or an order in it: sheets, bytes of
 -- messages, the records of a set-up, numbers on their boundaries. Then what contracts cite of the laws, which stand in proofs/, with
 -- the theorems on useless boxes.

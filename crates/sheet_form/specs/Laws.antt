@@ -1,14 +1,14 @@
 -- Laws that the proofs of the readers share: the tests of a sheet, once they pass; where its lines stand.
 -- Assumes nothing.
-use Rattle.std.specs.Prelude.{Bool, true, false, List, ◌≡◌, ℕ, ◌+◌, ◌*◌, ◌<◌, eqb, leb, length, Option, Some, None}
+use Rattle.std.specs.Prelude.{Bool, true, false, List, ◌≡◌, ℕ, ◌+◌, ◌*◌, ◌<◌, ◌≤◌, eqb, leb, length, get_or, Option, Some, None, Ok, Err}
 use Rattle.std.proofs.Math.Path.{refl}
-use Rattle.std.proofs.Common.{sym, add-one, eq-eqb, ne_eqb}
-use Rattle.folds.specs.Tests.{◌and◌, ◌or◌, pick, and_left, and_right}
+use Rattle.std.proofs.Common.{sym, ap, ◌∙◌, add-one, arith, eq-eqb, ne_eqb}
+use Rattle.folds.specs.Tests.{◌and◌, ◌or◌, pick, and_left, and_right, true≢false}
 use Rattle.folds.specs.Below.{all_below, all_below_at}
-use Rattle.rules.specs.Text.{text, space, byte_at, word_at, number_at, number_place, numbers_at}
-use Rattle.rules.specs.Sheet.{said_at, matrix_place, boxes_place, next_line, line_place, first_line_keeps, box_line_keeps, rest_keeps}
+use Rattle.rules.specs.Text.{text, space, byte_at, word_at, digits_end, decimal_at, is_decimal, number_at, number_place, numbers_at}
+use Rattle.rules.specs.Sheet.{said_at, matrix_place, boxes_place, says_place, is_silent, next_line, line_place, first_line_keeps, box_line_keeps, rest_keeps}
 use Rattle.text.specs.declared.read.Decimal.{Decimal}
-use Rattle.text.specs.Decimals.{decimal_in, some_decimal, none_decimal}
+use Rattle.text.specs.Decimals.{decimal_in, byte_within, some_decimal, none_decimal}
 use Rattle.rules.specs.Numbers.{exponent}
 use Rattle.sheet_form.specs.declared.Line.{Line}
 use Rattle.sheet_form.specs.Reading.{Entries, Whole, line_of, line_in}
@@ -19,6 +19,38 @@ pub first_numbers : (b : List ℕ) → first_line_keeps b ≡ true → numbers_a
 unfolding first_line_keeps
 first_numbers b h = and_right (word_at b 0 (text "sheet ")) _ (and_right (leb (length b) 4096) _ h)
 
+-- the line of a box: a byte stands behind its number, and two numbers behind that if it is not silent
+pub record BoxLine (b : List ℕ) (i : ℕ) : Type 0 where
+  pub within : digits_end b i < length b
+  pub pair : is_silent b i ≡ false → numbers_at b (says_place b i) 2 ≡ true
+
+pub box_line_lem : (b : List ℕ) (i m : ℕ) → box_line_keeps b i m ≡ true → BoxLine b i
+unfolding box_line_keeps
+box_line_lem b i m h =
+    let says = is_silent b i or numbers_at b (says_place b i) 2 in
+    let h₁ = and_right (is_decimal b i) (eqb (decimal_at b i) (m + 1) and byte_at b (digits_end b i) space and says) h in
+    let h₂ = and_right (eqb (decimal_at b i) (m + 1)) (byte_at b (digits_end b i) space and says) h₁ in
+    record {
+      within = byte_within b (digits_end b i) space (and_left (byte_at b (digits_end b i) space) says h₂);
+      pair = other (is_silent b i) (numbers_at b (says_place b i) 2) (and_right (byte_at b (digits_end b i) space) says h₂);
+    }
+  where
+    other : (x y : Bool) → x or y ≡ true → x ≡ false → y ≡ true
+    other true y e f = absurd (true≢false f)
+    other false y e f = e
+
+-- "silent" and its newline stand within the text
+pub silent_within : (b : List ℕ) (i : ℕ) → is_silent b i ≡ true → says_place b i + 7 ≤ length b
+unfolding word_at text
+silent_within b i h =
+    let w = text "silent\n" in
+    let last = all_below_at (λ j. byte_at b (says_place b i + j) (get_or w j 0)) 7 6 h (omega arith) in
+    omega (arith, byte_within b (says_place b i + 6) 10 last)
+
+-- what is read behind digits that have been found
+pub silent_read : (b : List ℕ) (i : ℕ) {end : ℕ} {r : Bool} → end ≡ digits_end b i → r ≡ word_at b (end + 1) (text "silent\n") → r ≡ is_silent b i
+silent_read b i e h = h ∙ ap (λ n. word_at b (n + 1) (text "silent\n")) e
+
 some_none : {l : Line} → ◌≡◌ {A = Option Line} (Some l) None → ⊥
 some_none e = cc
 
@@ -28,11 +60,11 @@ module _ (b : List ℕ) (i m : ℕ) where
   unfolding line_in
   line_none h = rw h
 
-  pub no_number : decimal_in b i ≡ None → None ≡ line_in b i m
+  pub no_number : {end : ℕ} → decimal_in b i ≡ Err end → None ≡ line_in b i m
   unfolding box_line_keeps
-  no_number h = line_none (rw (none_decimal b i (sym h)))
+  no_number h = line_none (rw (none_decimal b i (sym h)).stands)
 
-  module _ {d : Decimal} (read : decimal_in b i ≡ Some d) where
+  module _ {d : Decimal} (read : decimal_in b i ≡ Ok d) where
     line_read : box_line_keeps b i m
         ≡ (eqb d.number (m + 1) and byte_at b d.end space and (word_at b (d.end + 1) (text "silent\n") or numbers_at b (d.end + 1) 2))
     unfolding box_line_keeps

@@ -52,7 +52,9 @@ fn line_at(b: &[u8], i: usize, m: usize) -> Option<Line>
     requires { m < 10 }
     ensures { result ≡ line_in b.now i m }
 {
-    let x = text::read::decimal_at(b, i)?;
+    let Ok(x) = text::read::decimal_at(b, i) else {
+        return None;
+    };
     if usize::from(x.number) != m + 1 || !text::read::byte_at(b, x.end, b' ') {
         return None;
     }

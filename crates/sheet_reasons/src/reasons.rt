@@ -85,7 +85,7 @@ pub fn first_reason(b: &[u8]) -> Reason
 fn other_box(b: &[u8], i: usize, m: usize) -> bool
     ensures { result ≡ other_box b.now i m }
 {
-    let Some(x) = text::read::decimal_at(b, i) else {
+    let Ok(x) = text::read::decimal_at(b, i) else {
         return false;
     };
     usize::from(x.number) != m

@@ -32,7 +32,7 @@ fn put_box_line<const N: usize>(page: &mut ArrayVec<u8, N>, number: u16, verdict
     requires { array_vec_len page.old + 20 ≤ N }
     ensures { Adds page.old (box_line number verdict) 20 page.new }
 {
-    text::page::put_decimal(page, number);
+    text::page::put_decimal(page, u32::from(number));
     text::page::put_word(page, b" ");
     put_verdict(page, verdict);
 }
@@ -63,7 +63,7 @@ fn put_secret<const N: usize>(page: &mut ArrayVec<u8, N>, pair: Pair, boxes: &[u
 }
 
 #[tactic(auto, using(text::specs::Pages::adds_then), unfolding(rules::specs::Sheet::no_secret_line, rules::specs::Text::text))]
-fn put_no_secret<const N: usize>(page: &mut ArrayVec<u8, N>, v: u16, k: u16)
+fn put_no_secret<const N: usize>(page: &mut ArrayVec<u8, N>, v: u16, k: u32)
     requires { array_vec_len page.old + 26 ≤ N }
     ensures { Adds page.old (no_secret_line v k) 26 page.new }
 {
@@ -84,7 +84,7 @@ fn put_last_line<const N: usize>(
 {
     let all = record_points::points::points_kept(verified, k);
     if all.count < k {
-        put_no_secret(page, all.count as u16, k as u16);
+        put_no_secret(page, all.count as u16, k as u32);
     } else {
         let pair = record_points::recovered_from(q, k, verified);
         put_secret(page, pair, &all.said.map(|s| s.number)[..all.count]);

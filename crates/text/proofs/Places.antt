@@ -1,20 +1,21 @@
 -- What the library says of a part of a text, said of places of the whole.
 --
--- In order: bytes from a place on; the first of them that passes; a word that stands there; digits of a part; a number that
--- may not fit, and a word in place of a part.
+-- In order: bytes from a place on; a digit; a word that stands there; digits of a part; a number that
+-- may not fit, and a word in place of a part; what stands behind a part, filled anew.
 -- Assumes nothing.
-use Rattle.std.specs.Prelude.{Bool, true, false, not, List, [], ◌∷◌, ◌≡◌, refl, ℕ, zero, suc, ◌+◌, ◌-◌, ◌*◌, ◌<◌, ◌≤◌, eqb, leb, ltb, length, get_or, take, drop, ◌++◌, Option, Some, None, Result, Ok, Err}
-use Rattle.std.proofs.Common.{sym, ap, ap₂, ◌∙◌, arith, length-drop, get_or-drop, length-take-le, get_or-take, drop-drop, append_assoc, eqb-true, eq-eqb, ltb-false}
+use Rattle.std.specs.Prelude.{Bool, true, false, not, List, [], ◌∷◌, ◌≡◌, refl, ℕ, zero, suc, ◌+◌, ◌-◌, ◌*◌, ◌<◌, ◌≤◌, eqb, leb, ltb, length, get_or, take, drop, ◌++◌, Result, Ok, Err}
+use Rattle.std.proofs.Common.{sym, ap, ap₂, ◌∙◌, arith, length-drop, get_or-drop, length-take-le, get_or-take, drop-drop, drop_of_length-le, append_assoc, append-nil, length-append, eqb-true, eq-eqb}
+use Rattle.std.proofs.Math.Seq.{take-append_seam, drop-append_seam, take-length}
+use Rattle.std.specs.List.{refill}
+use Rattle.folds.specs.Runs.{sets-front}
 use Rattle.std.proofs.Math.Bool.{◌&&◌}
 use Rattle.std.specs.Char.{is_ascii_digit}
-use Rattle.std.specs.Option.{unwrap_or}
-use Rattle.std.specs.Result.{OkIff, result_ok}
+use Rattle.std.specs.Result.{OkIff}
 use Rattle.std.proofs.lemmas.List.Edits.{sets, sets-eq}
 use Rattle.std.specs.Cmp.Lexicographic.{pointwise}
 use borrow.Author.Tests.{lt-ltb}
-use Rattle.folds.specs.Tests.{◌and◌, pick, true≢false, and_right, iff_same}
-use Rattle.folds.specs.Below.{first_from, first_from_le, all_below, all_below_at, all_below_all, all_below_same}
-use Rattle.folds.specs.Below.{found}
+use Rattle.folds.specs.Tests.{◌and◌, true≢false, and_right, iff_same}
+use Rattle.folds.specs.Below.{all_below, all_below_at, all_below_all, all_below_same}
 use Rattle.rules.specs.Text.{byte_at, digit_at, word_at}
 use Rattle.text.specs.Decimals.{byte_there, byte_within}
 use Rattle.text.specs.Hexadecimal.{is_hex_digit, hex_at, hex_stands, hex_there}
@@ -27,47 +28,7 @@ byte_behind_place b i j = get_or-drop i b j 0
 pub part_at : (b : List ℕ) (i m j : ℕ) → j < m → get_or (take m (drop i b)) j 0 ≡ get_or b (i + j) 0
 part_at b i m j l = get_or-take m (drop i b) j 0 l ∙ byte_behind_place b i j
 
--- ---- the first that passes
-
-shift : (p : ℕ → Bool) (n i a : ℕ) → first_from n (a + i) p ≡ a + first_from n i (λ j. p (a + j))
-unfolding first_from
-shift p zero i a = refl
-shift p (suc n) i a = go (p (a + i)) (shift p n (i + 1) a)
-  where
-    go : (t : Bool) → first_from n (a + (i + 1)) p ≡ a + first_from n (i + 1) (λ j. p (a + j))
-        → pick t (a + i) (first_from n (a + i + 1) p) ≡ a + pick t i (first_from n (i + 1) (λ j. p (a + j)))
-    go true h = refl
-    go false h = let e : a + i + 1 ≡ a + (i + 1) = omega arith in ap (λ (k : ℕ). first_from n k p) e ∙ h
-
--- two tests that agree where they are made
-agree : (p q : ℕ → Bool) (n i : ℕ) → ((j : ℕ) → i ≤ j → j < i + n → p j ≡ q j) → first_from n i p ≡ first_from n i q
-unfolding first_from
-agree p q zero i h = refl
-agree p q (suc n) i h =
-    ap (λ (t : Bool). pick t i (first_from n (i + 1) p)) (h i (omega arith) (omega arith))
-    ∙ ap (λ (r : ℕ). pick (q i) i r) (agree p q n (i + 1) (λ j l g. h j (omega arith) (omega arith)))
-
--- the place that was found, or the end
-pub found_or : (n : ℕ) (p : ℕ → Bool) → unwrap_or (found n p) n ≡ first_from n 0 p
-found_or n p = go (ltb (first_from n 0 p) n) refl (first_from_le p n 0)
-  where
-    go : (t : Bool) → ltb (first_from n 0 p) n ≡ t → first_from n 0 p ≤ 0 + n → unwrap_or (pick t (Some (first_from n 0 p)) None) n ≡ first_from n 0 p
-    go true e h = refl
-    go false e h = let l = ltb-false (first_from n 0 p) n e in omega arith
-
--- it is found in what stands from i on
-pub found_from : (b : List ℕ) (i : ℕ) (p : ℕ → Bool) (test : ℕ → Bool) → ((j : ℕ) → j < length b → p j ≡ test (get_or b j 0))
-    → i + unwrap_or (found (length (drop i b)) (λ j. test (get_or (drop i b) j 0))) (length (drop i b)) ≡ first_from (length b - i) i p
-found_from b i p test h =
-    let n = length b - i in
-    let e : length (drop i b) ≡ n = length-drop i b in
-    let q : ℕ → Bool = λ j. test (get_or (drop i b) j 0) in
-    let z : i + 0 ≡ i = omega arith in
-    ap (λ (k : ℕ). i + unwrap_or (found k q) k) e
-    ∙ ap (λ (k : ℕ). i + k) (found_or n q)
-    ∙ ap (λ (k : ℕ). i + k) (agree q (λ j. p (i + j)) n 0 (λ j l g. ap test (byte_behind_place b i j) ∙ sym (h (i + j) (omega arith))))
-    ∙ sym (shift p n 0 i)
-    ∙ ap (λ (k : ℕ). first_from n k p) z
+-- ---- a digit
 
 -- a digit is one of the ten, as the library tests it
 pub digit_there : (b : List ℕ) (j : ℕ) → j < length b → not (digit_at b j) ≡ not (is_ascii_digit (get_or b j 0))
@@ -130,13 +91,13 @@ hex_part b i n m e h =
 
 -- ---- a number that may not fit, and a word in place of a part
 
-pub narrow_some : {E P : Type 0} {x : ℕ} (r : Result ℕ E) {o : Option ℕ} {n : ℕ} → OkIff r P x → o ≡ result_ok r → o ≡ Some n → P × (n ≡ x)
-narrow_some (Ok m) {o} {n} h e f = (h.0, let g : Some n ≡ Some m = sym f ∙ e in let k : n ≡ m = cc in k ∙ h.1)
-narrow_some (Err z) {o} {n} h e f = let g : Some n ≡ None = sym f ∙ e in cc
+pub narrow_ok : {E P : Type 0} {x : ℕ} (r : Result ℕ E) {n : ℕ} → OkIff r P x → r ≡ Ok n → P × (n ≡ x)
+narrow_ok (Ok m) {n} h e = (h.0, let k : n ≡ m = cc in k ∙ h.1)
+narrow_ok (Err z) h e = cc
 
-pub narrow_none : {E P : Type 0} (x : ℕ) (r : Result ℕ E) {o : Option ℕ} → OkIff r P x → o ≡ result_ok r → o ≡ None → P → ⊥
-narrow_none x (Ok m) h e f p = let g : Some m ≡ None = sym e ∙ f in cc
-narrow_none x (Err z) h e f p = h p
+pub narrow_err : {E P : Type 0} (x : ℕ) (r : Result ℕ E) {z : E} → OkIff r P x → r ≡ Err z → P → ⊥
+narrow_err x (Ok m) h e p = cc
+narrow_err x (Err z) h e p = h p
 
 pub sets_mid : (xs ys w : List ℕ) (at k : ℕ) → ys ≡ w → k ≡ length w → at + length w ≤ length xs → take at xs ++ (ys ++ drop k (drop at xs)) ≡ sets xs at w
 sets_mid xs ys w at k e n h =
@@ -144,3 +105,26 @@ sets_mid xs ys w at k e n h =
     ∙ ap (λ (t : List ℕ). take at xs ++ (w ++ t)) (drop-drop (length w) at xs)
     ∙ sym (append_assoc (take at xs) w (drop (at + length w) xs))
     ∙ sym (sets-eq w xs at h)
+
+-- what stands behind p, filled anew by as many
+pub filled_behind : (p b h : List ℕ) {xs ys : List ℕ} {at : ℕ} → xs ≡ p ++ b → at ≡ length p → length h ≡ length b
+    → ys ≡ sets (take (length xs - at) (drop at xs)) 0 h
+    → refill (length xs) xs (take at xs ++ (ys ++ drop (length xs - at) (drop at xs))) ≡ p ++ h
+filled_behind p b h {xs} {ys} {at} ex ea el ey =
+    let long : length xs - at ≡ length b = omega (arith, ap length ex, length-append p b) in
+    let front : take at xs ≡ p = ap₂ (λ (n : ℕ) (l : List ℕ). take n l) ea ex ∙ take-append_seam p b in
+    let back : drop at xs ≡ b = ap₂ (λ (n : ℕ) (l : List ℕ). drop n l) ea ex ∙ drop-append_seam p b in
+    let none : drop (length b) b ≡ [] = drop_of_length-le b (omega arith) in
+    let filled : ys ≡ h =
+    ey ∙ ap₂ (λ (n : ℕ) (l : List ℕ). sets (take n l) 0 h) long back ∙ ap (λ (l : List ℕ). sets l 0 h) (take-length b) ∙ sets-front b h (omega arith)
+    ∙ ap (λ (n : ℕ). h ++ drop n b) el ∙ ap (λ (l : List ℕ). h ++ l) none ∙ append-nil h in
+    let whole : take at xs ++ (ys ++ drop (length xs - at) (drop at xs)) ≡ p ++ h =
+    ap₂ (λ (l m : List ℕ). l ++ m) front
+    (ap₂ (λ (l m : List ℕ). l ++ m) filled (ap₂ (λ (n : ℕ) (l : List ℕ). drop n l) long back ∙ none) ∙ append-nil h) in
+    let n : length (p ++ h) ≡ length xs = omega (arith, length-append p h, length-append p b, ap length ex) in
+    ap (refill (length xs) xs) whole
+    ∙ ap (λ (k : ℕ). take (length xs) ((p ++ h) ++ drop k xs)) n
+    ∙ ap (λ (l : List ℕ). take (length xs) ((p ++ h) ++ l)) (drop_of_length-le xs (omega arith))
+    ∙ ap (take (length xs)) (append-nil (p ++ h))
+    ∙ ap (λ (k : ℕ). take k (p ++ h)) (sym n)
+    ∙ take-length (p ++ h)

@@ -3,7 +3,7 @@
 -- In order: the value; what stands in a text; its digits, and the four tests of a decimal; the parts of the value; the digits
 -- put one behind the other.
 -- Assumes nothing.
-use Rattle.std.specs.Prelude.{Bool, true, false, List, [], ◌∷◌, ◌≡◌, ℕ, zero, suc, ◌+◌, ◌-◌, ◌*◌, ◌/◌, ◌%◌, ◌^◌, ◌<◌, ◌≤◌, ltb, length, get_or, set, Option, Some, None}
+use Rattle.std.specs.Prelude.{Bool, true, false, List, [], ◌∷◌, ◌≡◌, ℕ, zero, suc, ◌+◌, ◌-◌, ◌*◌, ◌/◌, ◌%◌, ◌^◌, ◌<◌, ◌≤◌, ltb, length, get_or, set, Result, Ok, Err}
 use Rattle.std.proofs.Math.Bool.{not}
 use Rattle.std.proofs.Common.{sym, ◌∙◌, pow-suc, mul-div_cancel, div-one, add-one}
 use Rattle.std.proofs.Math.Path.{refl, ap}
@@ -21,11 +21,11 @@ use Rattle.text.specs.declared.read.Decimal.{Decimal}
 abbrev pub value : ℕ → ℕ → Decimal
 value number end = record { number = number; end = end }
 
--- the number that stands at i and where its digits end, where one does
-unfoldable pub decimal_in : List ℕ → ℕ → Option Decimal
-decimal_in b i = pick (is_decimal b i) (Some (value (decimal_at b i) (digits_end b i))) None
+-- the number that stands at i and where its digits end; where none does, where the digits end all the same
+unfoldable pub decimal_in : List ℕ → ℕ → Result Decimal ℕ
+decimal_in b i = pick (is_decimal b i) (Ok (value (decimal_at b i) (digits_end b i))) (Err (digits_end b i))
 
-some_none : {d : Decimal} → ◌≡◌ {A = Option Decimal} (Some d) None → ⊥
+some_none : {d : Decimal} {e : ℕ} → ◌≡◌ {A = Result Decimal ℕ} (Ok d) (Err e) → ⊥
 some_none e = cc
 
 -- ---- what stands in a text
@@ -33,6 +33,9 @@ some_none e = cc
 module _ (b : List ℕ) (i : ℕ) where
   pub byte_there : (c : ℕ) → i < length b → byte_at b i c ≡ eqb (get_or b i 0) c
   byte_there c h = ap (λ (t : Bool). t and eqb (get_or b i 0) c) (lt-ltb i (length b) h)
+
+  pub byte_behind : (c : ℕ) → length b ≤ i → byte_at b i c ≡ false
+  byte_behind c h = ap (λ (t : Bool). t and eqb (get_or b i 0) c) (le-ltb i (length b) h)
 
   pub byte_within : (c : ℕ) → byte_at b i c ≡ true → i < length b
   byte_within c h = ltb-true i (length b) (and_left (ltb i (length b)) (eqb (get_or b i 0) c) h)
@@ -102,11 +105,11 @@ module _ (b : List ℕ) (i : ℕ) where
   too_large g = false_unless (is_decimal b i) (λ h. let t = (decimal_tests h).small in let w : ⊥ = omega arith in w)
 
   -- the value, and what one that was read says
-  pub decimal_none : is_decimal b i ≡ false → decimal_in b i ≡ None
+  pub decimal_none : is_decimal b i ≡ false → decimal_in b i ≡ Err (digits_end b i)
   unfolding decimal_in
   decimal_none h = rw h
 
-  pub decimal_some : is_decimal b i ≡ true → decimal_in b i ≡ Some (value (decimal_at b i) (digits_end b i))
+  pub decimal_some : is_decimal b i ≡ true → decimal_in b i ≡ Ok (value (decimal_at b i) (digits_end b i))
   unfolding decimal_in
   decimal_some h = rw h
 
@@ -115,21 +118,25 @@ module _ (b : List ℕ) (i : ℕ) where
     pub number : d.number ≡ decimal_at b i
     pub end : d.end ≡ digits_end b i
 
-  pub some_decimal : {d : Decimal} → Some d ≡ decimal_in b i → Read d
+  pub some_decimal : {d : Decimal} → Ok d ≡ decimal_in b i → Read d
   unfolding decimal_in
   some_decimal {d} = go (is_decimal b i) refl
     where
-      go : (t : Bool) → is_decimal b i ≡ t → Some d ≡ pick t (Some (value (decimal_at b i) (digits_end b i))) None → Read d
+      go : (t : Bool) → is_decimal b i ≡ t → Ok d ≡ pick t (Ok (value (decimal_at b i) (digits_end b i))) (Err (digits_end b i)) → Read d
       go true h e = record { stands = h; number = cc; end = cc }
       go false h e = absurd (some_none e)
 
-  pub none_decimal : None ≡ decimal_in b i → is_decimal b i ≡ false
+  pub record Unread (e : ℕ) : Type 0 where
+    pub stands : is_decimal b i ≡ false
+    pub end : e ≡ digits_end b i
+
+  pub none_decimal : {e : ℕ} → Err e ≡ decimal_in b i → Unread e
   unfolding decimal_in
-  none_decimal = go (is_decimal b i)
+  none_decimal {e} = go (is_decimal b i) refl
     where
-      go : (t : Bool) → None ≡ pick t (Some (value (decimal_at b i) (digits_end b i))) None → t ≡ false
-      go true e = absurd (some_none (sym e))
-      go false e = refl
+      go : (t : Bool) → is_decimal b i ≡ t → Err e ≡ pick t (Ok (value (decimal_at b i) (digits_end b i))) (Err (digits_end b i)) → Unread e
+      go true h w = absurd (some_none (sym w))
+      go false h w = record { stands = h; end = cc }
 
 -- five digits at most, of 207 each at most: far below what four bytes hold
 pub powers_small : (j : ℕ) → j < 5 → 10 ^ j ≤ 10000

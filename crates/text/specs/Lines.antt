@@ -2,7 +2,7 @@
 --
 -- In order: the test of one of them; where they stand; a turn of the loop that reads them.
 -- Assumes nothing.
-use Rattle.std.specs.Prelude.{Bool, true, false, List, ◌≡◌, ℕ, ◌+◌, ◌<◌, eqb, length, Some, None}
+use Rattle.std.specs.Prelude.{Bool, true, false, List, ◌≡◌, ℕ, ◌+◌, ◌<◌, eqb, length, Ok, Err}
 use Rattle.std.proofs.Common.{sym, ap, ap₂, ◌∙◌, add-one, eq-eqb, ne_eqb}
 use Rattle.std.proofs.Math.Path.{refl}
 use Rattle.folds.specs.Tests.{◌and◌, pick, pick_true, pick-false, and_left, and_right}
@@ -38,7 +38,7 @@ module _ (b : List ℕ) (i : ℕ) where
     pub number_decimal : is_decimal b (number_place b i j) ≡ true
     number_decimal = and_left (is_decimal b (number_place b i j)) (ends_well b i m j) number_stands_lem
 
-    pub number_in : {place : ℕ} → place ≡ number_place b i j → decimal_in b place ≡ Some (value (number_at b i j) (digits_end b (number_place b i j)))
+    pub number_in : {place : ℕ} → place ≡ number_place b i j → decimal_in b place ≡ Ok (value (number_at b i j) (digits_end b (number_place b i j)))
     number_in e = ap (decimal_in b) e ∙ decimal_some b (number_place b i j) number_decimal
 
     pub number_within : digits_end b (number_place b i j) < length b
@@ -53,10 +53,10 @@ behind_more j m h = sym (pick-false (eqb (j + 1) m) newline space (ne_eqb (j + 1
 
 -- a turn of the loop that reads them: none is read at the place of number j, or d is
 module _ (b : List ℕ) (i m j : ℕ) {place : ℕ} (e : place ≡ number_place b i j) where
-  pub number_none : None ≡ decimal_in b place → number_stands b i m j ≡ false
-  number_none h = ap (λ (t : Bool). t and ends_well b i m j) (ap (is_decimal b) (sym e) ∙ none_decimal b place h)
+  pub number_none : {end : ℕ} → Err end ≡ decimal_in b place → number_stands b i m j ≡ false
+  number_none h = ap (λ (t : Bool). t and ends_well b i m j) (ap (is_decimal b) (sym e) ∙ (none_decimal b place h).stands)
 
-  module _ {d : Decimal} (h : Some d ≡ decimal_in b place) where
+  module _ {d : Decimal} (h : Ok d ≡ decimal_in b place) where
     pub number_behind : {c : ℕ} → c ≡ behind m j → number_stands b i m j ≡ byte_at b d.end c
     number_behind k =
         let r = some_decimal b place h in

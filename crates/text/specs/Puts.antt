@@ -2,8 +2,8 @@
 --
 -- In order: one run of bytes; runs put one behind the other; a loop that puts them; what was put at the front.
 -- Assumes nothing.
-use Rattle.std.specs.Prelude.{List, [], ◌∷◌, ◌++◌, ◌≡◌, refl, ℕ, ◌+◌, ◌*◌, ◌<◌, ◌≤◌, length, set}
-use Rattle.std.proofs.Common.{append_assoc, ap, ◌∙◌, arith, length-append}
+use Rattle.std.specs.Prelude.{List, [], ◌∷◌, ◌++◌, ◌≡◌, refl, ℕ, ◌+◌, ◌*◌, ◌<◌, ◌≤◌, length, get_or, set, take}
+use Rattle.std.proofs.Common.{append_assoc, sym, ap, ◌∙◌, add-one, arith, length-append, take-suc, length-take-le}
 use Rattle.std.proofs.lemmas.List.Edits.{sets}
 use Rattle.std.proofs.Math.Seq.{length-sets}
 use Rattle.folds.specs.Runs.{gather, gather-zero, length-gather_more, sets_then, sets-gather, sets-front}
@@ -58,6 +58,15 @@ module _ (out : List ℕ) (at : ℕ) where
       rw append_assoc both
 
 -- ---- a loop that puts them
+
+-- one more of the bytes of a word
+pub word_more : (out₀ w : List ℕ) (at j : ℕ) {out : List ℕ} → j < length w → out ≡ sets out₀ at (take j w)
+    → set out (at + j) (get_or w j 0) ≡ sets out₀ at (take (j + 1) w)
+word_more out₀ w at j h e =
+    let n = length-take-le j w (let z : j ≤ length w = omega arith in z) in
+    ap (λ (t : List ℕ). sets t (at + j) (get_or w j 0 ∷ [])) e
+    ∙ sets_then out₀ at (at + j) (take j w) (get_or w j 0 ∷ []) (omega arith)
+    ∙ ap (sets out₀ at) (sym (ap (λ (n : ℕ). take n w) (add-one j) ∙ take-suc w j 0 h))
 
 -- f 0, .. f (n - 1), w bytes each at most, from `at` on: j of them are put
 pub record PutRuns (f : ℕ → List ℕ) (w n at : ℕ) (out₀ out : List ℕ) (next j : ℕ) : Type 0 where

@@ -1,6 +1,6 @@
 -- There and back: a decimal that is written is read as the number; bytes written in hexadecimal are read as the bytes.
 -- Assumes nothing.
-use Rattle.std.specs.Prelude.{Bool, true, false, not, ◌⊎◌, ◌≡◌, eqb, leb, ltb, take, drop, Some}
+use Rattle.std.specs.Prelude.{Bool, true, false, not, ◌⊎◌, ◌≡◌, eqb, leb, ltb, take, drop, Ok}
 use mathlib.Core.List.{List, [], ◌∷◌, ◌++◌, append-nil}
 use Rattle.std.proofs.Math.Logic.{inl, inr}
 use Rattle.std.proofs.Math.Path.{refl, sym, ap}
@@ -211,14 +211,14 @@ module _ (x c : ℕ) (small : x ≤ 65535) (none : between 48 57 c ≡ false) (b
           or_right (eqb (digits_end b i) (i + 1)) (not (byte_at b i 48))
           (ap not (ap (λ (t : Bool). ltb i (length b) and t) other ∙ and_false (ltb i (length b))))
 
-  pub decimal_back : decimal_in b i ≡ Some (value x (i + length (decimal x)))
+  pub decimal_back : decimal_in b i ≡ Ok (value x (i + length (decimal x)))
   decimal_back =
       let e = end_back in
       let n = number_back in
       let l = decimal-length x in
       decimal_some b i
       (tests_decimal b i (record { some = omega arith; few = omega arith; plain = plain_back; small = omega arith }))
-      ∙ ap₂ (λ (y z : ℕ). Some (value y z)) n e
+      ∙ ap₂ (λ (y z : ℕ). Ok (value y z)) n e
 
 -- ---- bytes in hexadecimal
 

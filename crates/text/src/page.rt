@@ -1,5 +1,6 @@
 // Writers that add to a page, an array with a length of its own.
 ghost use Rattle.std.specs.Prelude.{◌≡◌, ◌+◌, ◌*◌, ◌≤◌, ◌<◌, ◌++◌, length};
+ghost use Rattle.std.proofs.lemmas.List.Edits.{sets};
 ghost use Rattle.rules.specs.Messages.{written};
 ghost use Rattle.rules.specs.Text.{decimal};
 ghost use Rattle.arrayvec.specs.ArrayVec.{array_vec_len};
@@ -30,13 +31,13 @@ pub fn put_digits<const N: usize>(page: &mut ArrayVec<u8, N>, n: u32, x: usize)
     page.push((48 + x % 10) as u8);
 }
 
-// A number has five digits at most.
+// A number below 100,000 has five digits at most.
 #[tactic(auto, unfolding(crate::specs::Pages::digits, rules::specs::Text::decimal))]
-pub fn put_decimal<const N: usize>(page: &mut ArrayVec<u8, N>, x: u16)
+pub fn put_decimal<const N: usize>(page: &mut ArrayVec<u8, N>, x: u32)
     requires { array_vec_len page.old + 5 ≤ N }
     ensures { Adds page.old (decimal x) 5 page.new }
 {
-    put_digits(page, 4, usize::from(x));
+    put_digits(page, 4, x as usize);
 }
 
 // A word and a number behind it.
@@ -46,7 +47,7 @@ pub fn put_numbered<const N: usize>(page: &mut ArrayVec<u8, N>, word: &[u8], x: 
     ensures { Adds page.old (word.now ++ decimal x) (length word.now + 5) page.new }
 {
     put_word(page, word);
-    put_decimal(page, x);
+    put_decimal(page, u32::from(x));
 }
 
 // ---- hexadecimal
@@ -58,15 +59,27 @@ fn glyph(x: u8) -> u8
     if x < 10 { b'0' + x } else { b'a' + (x - 10) }
 }
 
-// These bytes, two digits each.
-#[tactic(auto, using(crate::specs::Pages::runs_all), unfolding(crate::specs::Hexadecimal::hex_of))]
+// Digits over all of a slice, two for each of these bytes.
+fn fill_hex(out: &mut [u8], bytes: &[u8])
+    requires { length out.old ≡ 2 * length bytes.now }
+    ensures { out.new ≡ sets out.old 0 (hex_of bytes.now 0 (length bytes.now)) }
+{
+    for j in 0..bytes.len() {
+        out[2 * j] = glyph(bytes[j] / 16);
+        out[2 * j + 1] = glyph(bytes[j] % 16);
+    }
+}
+
+// These bytes, two digits each. The bytes, put twice, make the room in which the digits are filled: one after the other onto the page
+// they take six times as long.
 pub fn put_hex<const N: usize>(page: &mut ArrayVec<u8, N>, bytes: &[u8])
     requires { array_vec_len page.old + 2 * length bytes.now ≤ N }
     ensures { Adds page.old (hex_of bytes.now 0 (length bytes.now)) (2 * length bytes.now) page.new }
 {
-    for &x in bytes {
-        put_word(page, &[glyph(x / 16), glyph(x % 16)]);
-    }
+    let at = page.len();
+    put_word(page, bytes);
+    put_word(page, bytes);
+    fill_hex(&mut page.as_mut_slice()[at..], bytes);
 }
 
 // ---- numbers
@@ -77,8 +90,9 @@ pub fn put_numbers<const N: usize>(page: &mut ArrayVec<u8, N>, numbers: &[u16])
     requires { array_vec_len page.old + 6 * length numbers.now ≤ N }
     ensures { Adds page.old (numbers_of numbers.now) (6 * length numbers.now) page.new }
 {
-    for &x in numbers {
-        put_numbered(page, b" ", x);
+    for &number in numbers {
+        page.push(b' ');
+        put_decimal(page, u32::from(number));
     }
 }
 

@@ -29,8 +29,12 @@ pub fn word_at(b: &[u8], i: usize, w: &[u8]) -> bool
 pub fn byte_from(b: &[u8], i: usize, c: u8) -> usize
     ensures { result ≡ byte_from b.now i c }
 {
-    let rest = rest(b, i);
-    i + rest.iter().position(|x| *x == c).unwrap_or(rest.len())
+    for j in i..b.len() {
+        if b[j] == c {
+            return j;
+        }
+    }
+    i.max(b.len())
 }
 
 // ---- a decimal
@@ -39,11 +43,12 @@ pub fn byte_from(b: &[u8], i: usize, c: u8) -> usize
 pub fn digits_end(b: &[u8], i: usize) -> usize
     ensures { result ≡ digits_end b.now i }
 {
-    let rest = rest(b, i);
-    i + rest
-        .iter()
-        .position(|x| !x.is_ascii_digit())
-        .unwrap_or(rest.len())
+    for j in i..b.len() {
+        if !b[j].is_ascii_digit() {
+            return j;
+        }
+    }
+    i.max(b.len())
 }
 
 // What the n digits from i on say; a byte below them all says 0.
@@ -65,16 +70,18 @@ pub struct Decimal {
     pub end: usize,
 }
 
-// One that starts at i: at most five digits, no zero before another, a number of two bytes.
-pub fn decimal_at(b: &[u8], i: usize) -> Option<Decimal>
+// One that starts at i: at most five digits, no zero before another, a number of two bytes; else where the digits end that stand there.
+pub fn decimal_at(b: &[u8], i: usize) -> Result<Decimal, usize>
     ensures { result ≡ decimal_in b.now i }
 {
     let end = digits_end(b, i);
     if end <= i || 5 < end - i || 1 < end - i && byte_at(b, i, b'0') {
-        return None;
+        return Err(end);
     }
-    let number = u16::try_from(digits_say(b, i, end - i)).ok()?;
-    Some(Decimal { number, end })
+    match u16::try_from(digits_say(b, i, end - i)) {
+        Ok(number) => Ok(Decimal { number, end }),
+        Err(_) => Err(end),
+    }
 }
 
 // ---- the numbers of a line
@@ -85,7 +92,7 @@ pub fn numbers_at(b: &[u8], i: usize, m: usize) -> bool
 {
     let mut place = i;
     for j in 0..m {
-        let Some(x) = decimal_at(b, place) else {
+        let Ok(x) = decimal_at(b, place) else {
             return false;
         };
         let behind = if j + 1 == m { b'\n' } else { b' ' };

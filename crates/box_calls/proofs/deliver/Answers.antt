@@ -1,4 +1,4 @@
-use Rattle.std.proofs.Common.{sym, ap, ◌∙◌}
+use Rattle.std.proofs.Common.{sym, ap, ap₂, ◌∙◌}
 use Rattle.rules.specs.Refusals.{refusal_of}
 use Rattle.rules.specs.Answers.{refused, early_rows, hearing_rows, deliver_rows, deliver}
 use Rattle.rules.proofs.Laws.Table.{refusal_some}
@@ -12,7 +12,7 @@ unfolding deliver deliver_rows
 returns-in-Err c =
     let first = stays (early_rows _ _ _ _) (hearing_rows _ _ _) (early_numbered _ _ _ _) c.early.ensures c.in-Err.is in
     let left = early_leaves _ _ _ _ (λ e. refusal_some _ (sym (ap refusal_of c.in-Err.is) ∙ c.early.ensures ∙ e)) in
-    refuses _ _ _ _ first c.in-Err.is (c.refuse.ensures ∙ ap (refused _) (sym left))
+    refuses _ _ _ _ first c.in-Err.is (c.refuse.ensures ∙ ap₂ refused c.number.ensures (sym left))
 
 pub hearing-requires : goal.hearing-requires
 hearing-requires c = (gets_hearing _ _ _ _ (sym c.early.ensures ∙ ap refusal_of c.in_default.is)).1
@@ -27,7 +27,7 @@ returns-in-Err-hearing c =
     let left =
     hearing_leaves _ _ _ _ (sym c.early.ensures ∙ ap refusal_of c.in_default.is)
     (λ e. refusal_some _ (sym (ap refusal_of c.in-Err-hearing.is) ∙ c.hearing.ensures ∙ e)) in
-    refuses _ _ _ _ first c.in-Err-hearing.is (c.refuse-in-Err-hearing.ensures ∙ ap (refused _) (c.refused_at_hearing.ensures ∙ sym left))
+    refuses _ _ _ _ first c.in-Err-hearing.is (c.refuse-in-Err-hearing.ensures ∙ ap₂ refused c.number-in-Err-hearing.ensures (c.refused_at_hearing.ensures ∙ sym left))
 
 pub take-requires : goal.take-requires
 take-requires c =

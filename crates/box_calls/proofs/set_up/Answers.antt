@@ -1,4 +1,4 @@
-use Rattle.std.proofs.Common.{[], ap, ◌∙◌}
+use Rattle.std.proofs.Common.{[], ap, ap₂, ◌∙◌}
 use Rattle.rules.specs.Record.{new_record, zero_record}
 use Rattle.rules.specs.Steps.{quiet}
 use Rattle.rules.specs.Answers.{Done, refused, answered, set_up}
@@ -9,7 +9,7 @@ pub returns-in-Err : goal.returns-in-Err
 unfolding set_up answered
 returns-in-Err c =
     ap (λ (d : Done). d.outcome)
-    (refuses _ (quiet (new_record c.args.u)) zero_record [] c.set_up.ensures c.in-Err.is (c.refuse.ensures ∙ ap (refused _) c.zero_record.ensures))
+    (refuses _ (quiet (new_record c.args.u)) zero_record [] c.set_up.ensures c.in-Err.is (c.refuse.ensures ∙ ap₂ refused c.number.ensures c.zero_record.ensures))
 
 pub returns-in-Ok : goal.returns-in-Ok
 unfolding set_up answered

@@ -1,6 +1,6 @@
 use Rattle.std.specs.Prelude.{◌∷◌, ◌+◌, get_or}
 use Rattle.std.proofs.Common.{rules}
-use Rattle.arithmetic.specs.Matrices.{filled_is}
+use Rattle.matrices.specs.Filled.{filled_is}
 use Rattle.rules.specs.Numbers.{exponent}
 use Rattle.rules.specs.Matrices.{row}
 use Rattle.coins.proofs.coin_row.Goals as goal

@@ -1,6 +1,6 @@
 use Rattle.std.specs.Prelude.{◌≡◌, List, ℕ, ◌*◌, ◌%◌, ◌^◌, ◌≤◌}
 use Rattle.std.proofs.Common.{rules, ap}
-use Rattle.arithmetic.specs.Matrices.{filled_is}
+use Rattle.matrices.specs.Filled.{filled_is}
 use Rattle.folds.specs.Below.{sum_below, sum_below_same}
 use Rattle.rules.specs.declared.Exponent.{Exponent}
 use Rattle.rules.specs.Numbers.{exponent}

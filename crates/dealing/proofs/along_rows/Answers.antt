@@ -1,6 +1,6 @@
 use Rattle.std.specs.Prelude.{◌*◌, ◌%◌, ◌^◌}
 use Rattle.std.proofs.Common.{rules}
-use Rattle.arithmetic.specs.Matrices.{filled_is}
+use Rattle.matrices.specs.Filled.{filled_is}
 use Rattle.folds.specs.Below.{sum_below}
 use Rattle.rules.specs.Numbers.{exponent}
 use Rattle.rules.specs.Matrices.{row, coefficient₂}

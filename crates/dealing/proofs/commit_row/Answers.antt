@@ -1,5 +1,5 @@
 use Rattle.std.proofs.Common.{rules}
-use Rattle.arithmetic.specs.Matrices.{filled_is}
+use Rattle.matrices.specs.Filled.{filled_is}
 use Rattle.rules.specs.Numbers.{element}
 use Rattle.rules.specs.Matrices.{row, coefficient}
 use Rattle.rules.specs.Dealing.{committed}

@@ -1,6 +1,6 @@
 use Rattle.std.specs.Prelude.{◌+◌}
 use Rattle.std.proofs.Common.{rules}
-use Rattle.arithmetic.specs.Matrices.{filled_is}
+use Rattle.matrices.specs.Filled.{filled_is}
 use Rattle.rules.specs.Matrices.{to_boxes}
 use Rattle.rules.specs.Steps.{echo_four}
 use Rattle.dealing.proofs.echo_fours.Goals as goal

@@ -1,6 +1,6 @@
 use Rattle.std.specs.Prelude.{◌+◌}
 use Rattle.std.proofs.Common.{rules}
-use Rattle.arithmetic.specs.Matrices.{filled_is}
+use Rattle.matrices.specs.Filled.{filled_is}
 use Rattle.rules.specs.Matrices.{to_boxes}
 use Rattle.rules.specs.Dealing.{polynomials_of}
 use Rattle.dealing.proofs.polynomials_for_all.Goals as goal

@@ -1,5 +1,5 @@
 use Rattle.std.proofs.Common.{rules}
-use Rattle.arithmetic.specs.Matrices.{filled_is}
+use Rattle.matrices.specs.Filled.{filled_is}
 use Rattle.rules.specs.Matrices.{row}
 use Rattle.interpolation.specs.Points.{boxes_of}
 use Rattle.interpolation.specs.Lagrange.{weight_at, weight_row}

@@ -1,6 +1,6 @@
 use Rattle.std.proofs.Common.{rules, ◌≡◌, ◌∙◌, take}
 use Rattle.std.specs.Prelude.{◌+◌, get_or}
-use Rattle.arithmetic.specs.Matrices.{filled_is}
+use Rattle.matrices.specs.Filled.{filled_is}
 use Rattle.rules.specs.Matrices.{to_boxes, zero_four}
 use Rattle.interpolation.specs.Points.{said_by}
 use Rattle.interpolation.specs.Lagrange.{four_through}

@@ -8,14 +8,14 @@ use Rattle.console_lines.proofs.words.number_keeps.Goals as goal
 
 pub returns-in_default : goal.returns-in_default
 unfolding number_keeps
-returns-in_default c = rw (none_decimal c.args.line.now c.args.from (sym c.in_default.is ∙ c.decimal_at.ensures))
+returns-in_default c = rw (none_decimal c.args.line.now c.args.from (sym c.in_default.is ∙ c.decimal_at.ensures)).stands
 
 pub returns-then-x-item_end : goal.returns-then-x-item_end
 unfolding number_keeps
 returns-then-x-item_end c =
     let b = c.args.line.now in
     let i = c.args.from in
-    let read = some_decimal b i (sym c.in-Some.is ∙ c.decimal_at.ensures) in
+    let read = some_decimal b i (sym c.in-Ok.is ∙ c.decimal_at.ensures) in
     rw (read.stands, eq-eqb (digits_end b i) (item_end b i) (sym read.end ∙ c.if-x-item_end.true ∙ c.item_end.ensures))
     (ap (λ n. leb n c.args.limit) read.number)
 
@@ -24,6 +24,6 @@ unfolding number_keeps
 returns-else-x-item_end c =
     let b = c.args.line.now in
     let i = c.args.from in
-    let read = some_decimal b i (sym c.in-Some.is ∙ c.decimal_at.ensures) in
+    let read = some_decimal b i (sym c.in-Ok.is ∙ c.decimal_at.ensures) in
     ne_eqb _ _ c.if-x-item_end.false
     ∙ sym (rw (read.stands, ne_eqb (digits_end b i) (item_end b i) (λ e. c.if-x-item_end.false (read.end ∙ e ∙ sym c.item_end.ensures))))

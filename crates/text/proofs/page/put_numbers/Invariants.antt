@@ -2,5 +2,5 @@
 use Rattle.text.specs.Pages.{AddsRuns, number_of}
 use Rattle.text.proofs.page.put_numbers.Given as goal
 
-abbrev pub invariant-loop-x : goal.invariant-loop-x
-invariant-loop-x g l = AddsRuns (number_of l.numbers) 6 l.initial.page l.x-index l.page
+abbrev pub invariant-loop-number : goal.invariant-loop-number
+invariant-loop-number g l = AddsRuns (number_of l.numbers) 6 l.initial.page l.number-index l.page

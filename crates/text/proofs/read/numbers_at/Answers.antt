@@ -20,14 +20,14 @@ returns-then-not-byte_at c =
     let j = c.loop-j.j in
     let last : c.if-j-m.behind ≡ behind m j =
     elim c.if-j-m.branch [ then-j-m w ↦ w.behind-is ∙ behind_last j m w.if-j-m.true | else-j-m w ↦ w.behind-is ∙ behind_more j m w.if-j-m.false ] in
-    let tested = number_behind _ _ m j c.loop-j.invariant.0 (sym c.in-Some.is ∙ c.decimal_at.ensures) last in
+    let tested = number_behind _ _ m j c.loop-j.invariant.0 (sym c.in-Ok.is ∙ c.decimal_at.ensures) last in
     sym (all_below_not _ _ _ c.loop-j-test.true (tested ∙ sym c.byte_at.ensures ∙ c.if-not-byte_at.true))
 
 pub loop-j-preserved : goal.loop-j-preserved
 loop-j-preserved c =
     let m = c.args.m in
     let j = c.loop-j.j in
-    let read = sym c.in-Some.is ∙ c.decimal_at.ensures in
+    let read = sym c.in-Ok.is ∙ c.decimal_at.ensures in
     let last : c.if-j-m.behind ≡ behind m j =
     elim c.if-j-m.branch [ then-j-m w ↦ w.behind-is ∙ behind_last j m w.if-j-m.true | else-j-m w ↦ w.behind-is ∙ behind_more j m w.if-j-m.false ] in
     let tested = number_behind _ _ m j c.loop-j.invariant.0 read last in

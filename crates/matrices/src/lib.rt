@@ -1,4 +1,5 @@
-// Matrices are 8 by 8, and their lines 8 long; the first k count, and the rest is zero.
+// Arrays of any type of which the first so many places count, and the rest is zero: a line of 8, a column of a matrix of 8 by 8.
+#![tactic(auto)]
 
 ghost use Rattle.std.specs.Prelude.{◌≡◌, ◌≤◌, ◌<◌, ℕ, List, [], get_or};
 ghost use Rattle.rules.specs.Matrices.{row};

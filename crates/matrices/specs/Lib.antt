@@ -1,0 +1,2 @@
+-- Filled arrays.
+pub mod Filled
