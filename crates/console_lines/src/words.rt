@@ -1,6 +1,6 @@
 // The words that a line may begin with, and the form of the items behind each.
 ghost use Rattle.std.specs.Prelude.{◌≡◌, ◌≤◌, length};
-ghost use Rattle.console_lines.specs.Items.{place_in};
+ghost use Rattle.console_lines.specs.Items.{item_end, place_in};
 ghost use Rattle.console_lines.specs.Words.{
   word_is,
   word_of,
@@ -96,23 +96,25 @@ pub fn form_of(word: Word) -> Form
 
 // ---- the items
 
-// The item that starts there is a decimal up to the limit.
+// The item from one place to another is a decimal up to the limit.
 #[tactic(auto, unfolding(crate::specs::Words::number_keeps))]
-fn number_keeps(line: &[u8], from: usize, limit: u16) -> bool
+fn number_keeps(line: &[u8], from: usize, end: usize, limit: u16) -> bool
+    requires { end ≡ item_end line.now from }
     ensures { result ≡ number_keeps line.now from limit }
 {
     let Ok(x) = text::read::decimal_at(line, from) else {
         return false;
     };
-    x.end == crate::items::item_end(line, from) && x.number <= limit
+    x.end == end && x.number <= limit
 }
 
 // It is `-`, or an even number of digits.
 #[tactic(auto, using(crate::specs::Items::item_end_least), unfolding(crate::specs::Words::bytes_keep))]
-fn bytes_keep(line: &[u8], from: usize) -> bool
+fn bytes_keep(line: &[u8], from: usize, end: usize) -> bool
+    requires { end ≡ item_end line.now from }
     ensures { result ≡ bytes_keep line.now from }
 {
-    let width = crate::items::item_end(line, from) - from;
+    let width = end - from;
     if width == 1 {
         return text::read::byte_at(line, from, b'-');
     }
@@ -121,13 +123,14 @@ fn bytes_keep(line: &[u8], from: usize) -> bool
 
 // It is of the form of item j, counted from 0 behind the word.
 #[tactic(auto, unfolding(crate::specs::Words::item_keeps))]
-fn item_keeps(line: &[u8], form: Form, j: usize, from: usize) -> bool
+fn item_keeps(line: &[u8], form: Form, j: usize, from: usize, end: usize) -> bool
+    requires { end ≡ item_end line.now from }
     ensures { result ≡ item_keeps line.now form j from }
 {
     if j < form.numbers {
-        number_keeps(line, from, form.limit)
+        number_keeps(line, from, end, form.limit)
     } else {
-        bytes_keep(line, from)
+        bytes_keep(line, from, end)
     }
 }
 
@@ -138,10 +141,11 @@ pub fn bad_item(line: &[u8], form: Form, m: usize) -> Option<usize>
 {
     let mut place = crate::items::item_place(line, 1);
     for j in 0..m {
-        if !item_keeps(line, form, j, place) {
+        let end = crate::items::item_end(line, place);
+        if !item_keeps(line, form, j, place, end) {
             return Some(j);
         }
-        place = crate::items::item_end(line, place) + 1;
+        place = end + 1;
     }
     None
 }

@@ -1,21 +1,22 @@
 -- What the library says of a part of a text, said of places of the whole.
 --
--- In order: bytes from a place on; a digit; a word that stands there; digits of a part; a number that
+-- In order: bytes from a place on; the first of them that passes; a digit; a word that stands there; digits of a part; a number that
 -- may not fit, and a word in place of a part; what stands behind a part, filled anew.
 -- Assumes nothing.
-use Rattle.std.specs.Prelude.{Bool, true, false, not, List, [], ◌∷◌, ◌≡◌, refl, ℕ, zero, suc, ◌+◌, ◌-◌, ◌*◌, ◌<◌, ◌≤◌, eqb, leb, ltb, length, get_or, take, drop, ◌++◌, Result, Ok, Err}
-use Rattle.std.proofs.Common.{sym, ap, ap₂, ◌∙◌, arith, length-drop, get_or-drop, length-take-le, get_or-take, drop-drop, drop_of_length-le, append_assoc, append-nil, length-append, eqb-true, eq-eqb}
+use Rattle.std.specs.Prelude.{Bool, true, false, not, List, [], ◌∷◌, ◌≡◌, refl, ℕ, zero, suc, ◌+◌, ◌-◌, ◌*◌, ◌<◌, ◌≤◌, eqb, leb, ltb, length, get_or, take, drop, ◌++◌, Some, None, Result, Ok, Err}
+use Rattle.std.proofs.Common.{sym, ap, ap₂, ◌∙◌, arith, length-drop, get_or-drop, length-take-le, get_or-take, drop-drop, drop_of_length-le, append_assoc, append-nil, length-append, eqb-true, eq-eqb, ltb-false}
 use Rattle.std.proofs.Math.Seq.{take-append_seam, drop-append_seam, take-length}
 use Rattle.std.specs.List.{refill}
 use Rattle.folds.specs.Runs.{sets-front}
 use Rattle.std.proofs.Math.Bool.{◌&&◌}
 use Rattle.std.specs.Char.{is_ascii_digit}
+use Rattle.std.specs.Option.{unwrap_or}
 use Rattle.std.specs.Result.{OkIff}
 use Rattle.std.proofs.lemmas.List.Edits.{sets, sets-eq}
 use Rattle.std.specs.Cmp.Lexicographic.{pointwise}
 use borrow.Author.Tests.{lt-ltb}
-use Rattle.folds.specs.Tests.{◌and◌, true≢false, and_right, iff_same}
-use Rattle.folds.specs.Below.{all_below, all_below_at, all_below_all, all_below_same}
+use Rattle.folds.specs.Tests.{◌and◌, pick, true≢false, and_right, iff_same}
+use Rattle.folds.specs.Below.{first_from, first_from_le, found, all_below, all_below_at, all_below_all, all_below_same}
 use Rattle.rules.specs.Text.{byte_at, digit_at, word_at}
 use Rattle.text.specs.Decimals.{byte_there, byte_within}
 use Rattle.text.specs.Hexadecimal.{is_hex_digit, hex_at, hex_stands, hex_there}
@@ -28,7 +29,15 @@ byte_behind_place b i j = get_or-drop i b j 0
 pub part_at : (b : List ℕ) (i m j : ℕ) → j < m → get_or (take m (drop i b)) j 0 ≡ get_or b (i + j) 0
 part_at b i m j l = get_or-take m (drop i b) j 0 l ∙ byte_behind_place b i j
 
--- ---- a digit
+-- ---- the first that passes, and a digit
+
+-- the place that was found, or the end
+pub found_or : (n : ℕ) (p : ℕ → Bool) → unwrap_or (found n p) n ≡ first_from n 0 p
+found_or n p = go (ltb (first_from n 0 p) n) refl (first_from_le p n 0)
+  where
+    go : (t : Bool) → ltb (first_from n 0 p) n ≡ t → first_from n 0 p ≤ 0 + n → unwrap_or (pick t (Some (first_from n 0 p)) None) n ≡ first_from n 0 p
+    go true e h = refl
+    go false e h = let l = ltb-false (first_from n 0 p) n e in omega arith
 
 -- a digit is one of the ten, as the library tests it
 pub digit_there : (b : List ℕ) (j : ℕ) → j < length b → not (digit_at b j) ≡ not (is_ascii_digit (get_or b j 0))

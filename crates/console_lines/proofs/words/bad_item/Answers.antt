@@ -15,13 +15,13 @@ returns-then-not-item_keeps c =
 
 pub overflow_add-place : goal.overflow_add-place
 overflow_add-place c =
-    omega (arith, c.item_end-place.ensures, c.loop-j.invariant.1, item_end_most c.args.line.now c.loop-j.place, item_place_most c.args.line.now (c.loop-j.j + 1))
+    omega (arith, c.item_end-end.ensures, c.loop-j.invariant.1, item_end_most c.args.line.now c.loop-j.place, item_place_most c.args.line.now (c.loop-j.j + 1))
 
 pub loop-j-preserved : goal.loop-j-preserved
 loop-j-preserved c =
     let tested = ap not (c.item_keeps.ensures ∙ ap (item_keeps c.args.line.now c.args.form c.loop-j.j) c.loop-j.invariant.1) in (
       first_more _ _ _ c.loop-j-test.true c.loop-j.invariant.0 (sym tested ∙ ap not c.if-not-item_keeps.false),
-      ap (λ n. n + 1) (c.item_end-place.ensures ∙ ap (item_end c.args.line.now) c.loop-j.invariant.1) ∙ sym (item_place_more _ _),
+      ap (λ n. n + 1) (c.item_end-end.ensures ∙ ap (item_end c.args.line.now) c.loop-j.invariant.1) ∙ sym (item_place_more _ _),
     )
 
 pub returns : goal.returns
