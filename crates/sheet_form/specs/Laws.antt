@@ -78,7 +78,7 @@ module _ (b : List ℕ) (i m : ℕ) where
       no_space e = line_none (rw (line_read, eq-eqb d.number (m + 1) n, e))
 
       module _ (e : byte_at b d.end space ≡ true) where
-        then_says : box_line_keeps b i m ≡ (word_at b (d.end + 1) (text "silent\n") or numbers_at b (d.end + 1) 2)
+        pub then_says : box_line_keeps b i m ≡ (word_at b (d.end + 1) (text "silent\n") or numbers_at b (d.end + 1) 2)
         then_says = rw (line_read, eq-eqb d.number (m + 1) n, e)
 
         pub silent_line : word_at b (d.end + 1) (text "silent\n") ≡ true → Some (record { said = None; next = d.end + 1 + 7 }) ≡ line_in b i m
